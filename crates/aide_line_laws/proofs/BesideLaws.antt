@@ -1,6 +1,6 @@
 -- The lines of two databases beside a trusted pair: they are lines of JSON, a reader finds in them the paths and digests of
 -- all four, and without their last line they are never complete.
-use Rattle.std.proofs.Common.{◌≡◌, ◌∙◌, ℕ, true, false, List, [], ◌∷◌, ◌++◌, Some, Ok, Err, refl, ap, append_assoc}
+use Rattle.std.proofs.Common.{◌≡◌, ◌∙◌, ◌∷◌, ◌++◌, Err, List, Ok, Some, [], ap, append_assoc, false, refl, rules, true, ℕ}
 use Rattle.std.proofs.Common.{if◌then◌else◌, Option}
 use Rattle.std.specs.Prelude.{codes, ⊤}
 use Rattle.std.specs.List.{AllByRecursion}
@@ -62,13 +62,7 @@ pub lines_beside_are_json : (limits : Limits) (list : ListRead) (wish trusted : 
 unfolding lines_beside all_lines_beside
 lines_beside_are_json limits list wish trusted old new trusted_old trusted_new old_sound new_sound old_bytes new_bytes paths
     others digest =
-    let account = by_texts list old new trusted_old trusted_new in
-    let found = line_counts wish.options account (database_of old) (database_of new) in
-    all_lines_are_json wish.options account (changes (database_of old) (database_of new)) _ _ _ _
-    (changes_bytes limits old new old_sound new_sound old_bytes new_bytes)
-    (opening_line_trusted_is_json wish.old_path wish.new_path trusted.old_path trusted.new_path paths.0 paths.1 others.0 others.1)
-    (closing_line_trusted_is_json (read_of old) (read_of new) (read_of trusted_old) (read_of trusted_new) list.digest found
-    (status_by found) (sha256_bytes old) (sha256_bytes new) (sha256_bytes trusted_old) (sha256_bytes trusted_new) digest)
+    search (rules, all_lines_are_json, changes_bytes, opening_line_trusted_is_json, closing_line_trusted_is_json, sha256_bytes)
 
 -- the members of the line of a change, by what accounts for it, if it has a line
 abbrev accounted_fields : Options → Accounted → List (List Field)
@@ -147,23 +141,15 @@ pub digests_beside_are_read_back : (old new trusted_old trusted_new : ReadFacts)
     × (digest_under (codes "trusted_new") (closing_fields_trusted old new trusted_old trusted_new list counts status)
     ≡ Some trusted_new.digest)
     × (digest_under (codes "list") (closing_fields_trusted old new trusted_old trusted_new list counts status) ≡ Some list)
-digests_beside_are_read_back old new trusted_old trusted_new list counts status h k l m n = (
-  read_in_base_16 old.digest h,
-  read_in_base_16 new.digest k,
-  read_in_base_16 trusted_old.digest l,
-  read_in_base_16 trusted_new.digest m,
-  read_in_base_16 list n,
-)
+digests_beside_are_read_back old new trusted_old trusted_new list counts status h k l m n =
+    search (rules, read_in_base_16)
 
 -- ---- which lines are complete
 
 -- The lines over four texts are complete.
 pub lines_beside_are_complete : (list : ListRead) (wish trusted : Asked) (old new trusted_old trusted_new : List ℕ)
     → AreComplete (fields_beside list wish trusted old new trusted_old trusted_new)
-lines_beside_are_complete list wish trusted old new trusted_old trusted_new =
-    complete_by (fields_begun wish.options (by_texts list old new trusted_old trusted_new)
-    (opening_fields_trusted wish.old_path wish.new_path trusted.old_path trusted.new_path)
-    (changes (database_of old) (database_of new))) _ refl
+lines_beside_are_complete list wish trusted old new trusted_old trusted_new = search (rules, complete_by)
 
 accounted_has_no_end : (options : Options) (all : List Accounted) → AllByRecursion IsNoEnd (all_accounted_fields options all)
 accounted_has_no_end options [] = tt
@@ -176,13 +162,7 @@ accounted_has_no_end options (each ∷ all) =
 
 opening_is_no_end : (old_path new_path trusted_old trusted_new : List ℕ)
     → IsNoEnd (opening_fields_trusted old_path new_path trusted_old trusted_new)
-opening_is_no_end old_path new_path trusted_old trusted_new =
-    let last = text_field (codes "trusted_new") trusted_new ∷ [] in
-    let third = text_field (codes "trusted_old") trusted_old ∷ last in
-    past_text (codes "end") (codes "old") old_path (text_field (codes "new") new_path ∷ third) refl refl
-    ∙ past_text (codes "end") (codes "new") new_path third refl refl
-    ∙ past_text (codes "end") (codes "trusted_old") trusted_old last refl refl
-    ∙ past_text (codes "end") (codes "trusted_new") trusted_new [] refl refl
+opening_is_no_end old_path new_path trusted_old trusted_new = search (rules, past_text)
 
 -- What goes out before the last line, whatever the four texts are, does not begin with complete lines.
 pub begun_beside_is_never_complete : (wish trusted : Asked) (old new : List ℕ) (accounted : List Accounted)

@@ -1,24 +1,24 @@
 -- What is read of a line of bytes is of bytes: its path, and each value by the form of its attribute.
-use Rattle.std.proofs.Common.{◌≡◌, ℕ, ℤ, ◌+◌, ◌*◌, ◌%◌, ◌<◌, Bool, true, false, cond, ◌&&◌, if◌then◌else◌, nat_lt, nat_le, length, List, []}
+use Rattle.std.proofs.Common.{◌≡◌, ◌+◌, ◌*◌, ◌%◌, ◌<◌, ◌&&◌, Bool, List, [], cond, false, if◌then◌else◌}
+use Rattle.std.proofs.Common.{length, nat_le, nat_lt, rules, true, ℕ, ℤ}
 use Rattle.std.proofs.Common.{◌∷◌, Option, Some, None, inl, inr, arith}
-use Rattle.std.specs.Prelude.{codes, drop, option_map, nat_eq, unwrap_or}
+use Rattle.std.specs.Prelude.{drop, option_map, unwrap_or}
 use Rattle.std.proofs.lemmas.Bool.{cases_Bool, and_parts}
 use Rattle.std.proofs.lemmas.Bool.Decides.{nat_tests}
 use Rattle.std.specs.Char.{digit_value, is_digit}
-use Rattle.std.specs.List.{AllByRecursion, filter, slice_split, onto_first, starts_with}
-use Rattle.std.specs.Str.{bytes_eq}
+use Rattle.std.specs.List.{AllByRecursion, filter, slice_split, onto_first}
 use Rattle.percent_encoding.specs.Percent.{percent_decode, is_escape}
-use Rattle.aide_attr.specs.Attr.{form_of, bit_of, holder_of}
+use Rattle.aide_attr.specs.Attr.{form_of}
 use Rattle.aide_attr.specs.declared.attr.Attr.{Attr}
 use Rattle.aide_attr.specs.declared.file_type.FileType.{FileType}
 use Rattle.aide_attr.specs.declared.form.Form.{Form}
 use Rattle.aide_attr.specs.declared.form.Form.TheVariants.{Kind, Mode, Number, Time, Link, Digest, Opaque}
-use Rattle.aide_entry.specs.Attributes.{number_value, mode_value, type_value, digest_value, opaque_value}
-use Rattle.aide_entry.specs.Entry.{path_of, attributes_of, field_of, is_on, value_in}
-use Rattle.aide_entry.specs.Fields.{field_under, is_name, is_bits, is_of}
+use Rattle.aide_entry.specs.Attributes.{number_value, mode_value, type_value, digest_value}
+use Rattle.aide_entry.specs.Entry.{path_of, attributes_of, field_of, value_in}
+use Rattle.aide_entry.specs.Fields.{field_under, is_name}
 use Rattle.aide_entry.specs.Numbers.{mode_of, number_of}
 use Rattle.aide_entry.specs.Text.{fields, is_blank, is_filled}
-use Rattle.aide_entry.specs.Values.{is_nought, type_of_mode, time_of, digest_of, of_length, link_of, link_text, value_of}
+use Rattle.aide_entry.specs.Values.{type_of_mode, time_of, digest_of, of_length, link_of, link_text, value_of}
 use Rattle.aide_entry.specs.declared.column.Column.{Column}
 use Rattle.base64.specs.Engines.{standard}
 use Rattle.base64.specs.GeneralPurpose.{decoded_of}
@@ -105,24 +105,11 @@ without_first [] h = tt
 without_first (b ∷ bytes) h = h.1
 
 link_text_bytes : (field : List ℕ) → AreBytes field → AreBytes (link_text field)
-link_text_bytes field h = elim (starts_with nat_eq field (codes "00")) as (λ b. AreBytes (if b then drop 1 field else field)) [
-  | true ↦ without_first field h
-  | false ↦ h
-]
+link_text_bytes field h = search (rules, without_first)
 
 link_bytes : (field : List ℕ) → AreBytes field → AreBytesIfAny (link_of field)
 unfolding link_of
-link_bytes field h =
-    elim (is_nought field) as
-    (λ b. AreBytesIfAny (if b then None else
-    (if bytes_eq field (codes "0-") then Some [] else Some (percent_decode (link_text field))))) [
-      | true ↦ tt
-      | false ↦ elim (bytes_eq field (codes "0-")) as
-          (λ b. AreBytesIfAny (if b then Some [] else Some (percent_decode (link_text field)))) [
-            | true ↦ tt
-            | false ↦ decoded_bytes (link_text field) (link_text_bytes field h)
-          ]
-    ]
+link_bytes field h = search (rules, decoded_bytes, link_text_bytes)
 
 kind_form : (o : Option FileType) → IsOfFormIfAny Kind (option_map type_value o)
 kind_form None = tt
@@ -163,22 +150,14 @@ value_form Number field h = number_form (number_of field)
 value_form Time field h = time_form (time_of field)
 value_form Link field h = link_bytes field h
 value_form (Digest least most) field h = digest_form least most (digest_of least most field) (digest_bytes least most field h)
-value_form Opaque field h = elim (is_nought field) as (λ b. IsOfFormIfAny Opaque (if b then None else Some (opaque_value field))) [
-  | true ↦ tt
-  | false ↦ h
-]
+value_form Opaque field h = search rules
 
 value_in_form : (form : Form) (field : Option (List ℕ)) → AreBytesIfAny field → IsOfFormIfAny form (value_in form field)
 value_in_form form None h = tt
 value_in_form form (Some field) h = value_form form field h
 
 field_bytes : (columns : List Column) (line : List ℕ) (attr : Attr) → AreBytes line → AreBytesIfAny (field_of columns line attr)
-field_bytes columns line attr h =
-    let found = field_under (is_of (holder_of attr)) columns (fields line) in
-    elim (is_on (bit_of attr) (field_under is_bits columns (fields line))) as (λ b. AreBytesIfAny (if b then found else None)) [
-      | true ↦ under_bytes (is_of (holder_of attr)) columns (fields line) (fields_bytes line h)
-      | false ↦ tt
-    ]
+field_bytes columns line attr h = search (rules, under_bytes, fields_bytes)
 
 -- the attributes of a line of bytes
 pub forms_of_attributes : (columns : List Column) (line : List ℕ) → AreBytes line → AreOfForms (attributes_of columns line)

@@ -1,6 +1,6 @@
 -- The line of a path is one object of JSON and one line: its members are the path and what is there.
-use Rattle.std.proofs.Common.{◌≡◌, ℕ, ◌+◌, ◌/◌, ◌%◌, ◌<◌, Bool, true, false, cond, ◌&&◌, List, [], ◌∷◌, ◌++◌, map, Option, Some, None}
-use Rattle.std.proofs.Common.{is_some, refl, sym, subst, arith}
+use Rattle.std.proofs.Common.{◌≡◌, ◌+◌, ◌/◌, ◌%◌, ◌<◌, ◌&&◌, ◌∷◌, Bool, List, None, Option, Some, [], cond, false, map, rules, true, ℕ}
+use Rattle.std.proofs.Common.{is_some, refl, arith}
 use Rattle.std.specs.Prelude.{codes}
 use Rattle.std.proofs.lemmas.Bool.{and_from}
 use Rattle.std.proofs.lemmas.Bool.Decides.{nat_tests}
@@ -96,16 +96,8 @@ one_more : (shows : Attr → Bool) (values : Attributes) (a : Attr) (attrs : Lis
     (a ∷ filter (λ a. shows a && is_some (values a)) attrs) (filter (λ a. shows a && is_some (values a)) attrs)))
     (flat_map (attribute_field values) (cond shown (a ∷ filter shows attrs) (filter shows attrs)))
 one_more shows values a attrs true (Some value) e k more =
-    subst (λ o. AreMembers 0 (value_member (detail_name_of a) (form_of a) o ∷ texts_of shows values attrs)
-    (value_field (detail_name_of a) (form_of a) o ++ fields_of shows values attrs)) (sym e)
-    (members_both 0 (value_member (detail_name_of a) (form_of a) (Some value) ∷ []) (texts_of shows values attrs)
-    (value_field (detail_name_of a) (form_of a) (Some value)) (fields_of shows values attrs)
-    (value_member_of (detail_name_of a) (form_of a) value (plain_detail a) k) more)
-one_more shows values a attrs true None e k more =
-    subst (λ o. AreMembers 0 (texts_of shows values attrs)
-    (value_field (detail_name_of a) (form_of a) o ++ fields_of shows values attrs)) (sym e)
-    (subst (λ l. AreMembers 0 (texts_of shows values attrs) (l ++ fields_of shows values attrs))
-    (sym (no_field (detail_name_of a) (form_of a))) more)
+    search (rules, AreMembers, texts_of, fields_of, members_both, value_member_of, plain_detail)
+one_more shows values a attrs true None e k more = search (rules, AreMembers, texts_of, fields_of, no_field)
 one_more shows values a attrs false found e k more = more
 
 -- the attributes that an entry has, as members

@@ -1,15 +1,11 @@
 -- The letters of a summary string stand for themselves in a string of JSON.
-use Rattle.std.proofs.Common.{◌≡◌, ℕ, Bool, true, false, ◌==◌, if◌then◌else◌, List, [], ◌∷◌, map, Option, Some, None, refl}
-use Rattle.std.specs.Prelude.{codes}
-use Rattle.std.specs.List.{list_any}
+use Rattle.std.proofs.Common.{◌≡◌, ◌∷◌, Bool, List, None, Option, Some, [], false, if◌then◌else◌, map, refl, rules, true, ℕ}
 use Rattle.std.specs.declared.cmp.Ordering.{Ordering}
 use Rattle.std.specs.declared.cmp.Ordering.TheVariants.{Less, Equal, Greater}
 use Rattle.std.proofs.lemmas.Bool.{and_parts, and_from}
 use Rattle.aide_agreement.specs.Account.{Pair}
-use Rattle.aide_attr.specs.Attr.{attrs_at}
-use Rattle.aide_attr.specs.Byte.{letter}
-use Rattle.aide_attr.specs.Difference.{Sides, is_changed, counts_changed, counts_added, counts_removed, is_affected, is_same}
-use Rattle.aide_attr.specs.Summary.{slot_letter, size_letter, letter_of_type, first_type, letter_at, summary_slots, alone_letters}
+use Rattle.aide_attr.specs.Difference.{Sides}
+use Rattle.aide_attr.specs.Summary.{slot_letter, size_letter, letter_of_type, letter_at, summary_slots, alone_letters}
 use Rattle.aide_attr.specs.declared.attr.Attr.{Attr}
 use Rattle.aide_attr.specs.declared.attr.Attr.TheVariants.{Ftype}
 use Rattle.aide_attr.specs.declared.delta.Ignore.{Ignore}
@@ -28,12 +24,7 @@ either_plain false x y e f = f
 plain_slot : (s : Sides) (i : Ignore) (attrs : List Attr) (own same : ℕ) → is_plain own ≡ true → is_plain same ≡ true
     → is_plain (slot_letter s i attrs own same) ≡ true
 unfolding slot_letter
-plain_slot s i attrs own same e f =
-    either_plain (list_any (counts_changed s i) attrs) _ _ e
-    (either_plain (list_any (counts_added s i) attrs) _ _ refl
-    (either_plain (list_any (counts_removed s i) attrs) _ _ refl
-    (either_plain (list_any (is_affected s) attrs) _ _ refl
-    (either_plain (list_any (is_same s) attrs) _ _ f refl))))
+plain_slot s i attrs own same e f = search (rules, either_plain)
 
 plain_size : (order : Ordering) → is_plain (size_letter order) ≡ true
 plain_size Less = refl
@@ -53,12 +44,7 @@ plain_type_letter (Some (kind.Other bits)) = refl
 
 plain_letter : (s : Sides) (i : Ignore) (slot : ℕ) → is_plain slot ≡ true → is_plain (letter_at s i slot) ≡ true
 unfolding letter_at
-plain_letter s i slot e =
-    either_plain (slot == letter (codes "Y")) _ _
-    (either_plain (is_changed s Ftype) _ _ refl (plain_type_letter (first_type s.new_type s.old_type)))
-    (either_plain (slot == letter (codes "Z")) _ _
-    (plain_slot s i (attrs_at slot) (size_letter s.size) (letter (codes "=")) (plain_size s.size) refl)
-    (plain_slot s i (attrs_at slot) slot (letter (codes ".")) e refl))
+plain_letter s i slot e = search (rules, either_plain, plain_type_letter, plain_slot, plain_size)
 
 plain_letters_at : (s : Sides) (i : Ignore) (slots : List ℕ) → are_plain slots ≡ true → are_plain (map (letter_at s i) slots) ≡ true
 plain_letters_at s i [] e = refl

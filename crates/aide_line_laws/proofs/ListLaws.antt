@@ -1,5 +1,5 @@
 -- What a list changes of what accounts for changes, and what it never does.
-use Rattle.std.proofs.Common.{◌≡◌, ◌∙◌, ◌<◌, ◌^◌, ℕ, List, [], ◌++◌, Option, Some, None, refl, ap, sym}
+use Rattle.std.proofs.Common.{◌≡◌, ◌∙◌, ◌<◌, ◌^◌, ◌++◌, List, None, Option, Some, [], ap, refl, rules, sym, ℕ}
 use Rattle.std.specs.Prelude.{Bool, true, false, ⊤, if◌then◌else◌, decimal, option_and_then, option_map}
 use Rattle.std.proofs.lemmas.Fmt.{decimal_injective}
 use Rattle.json.specs.Json.{number, string}
@@ -8,7 +8,6 @@ use Rattle.std.specs.FinMap.{get}
 use Rattle.aide_agreement.specs.Account.{Pair, same_as}
 use Rattle.aide_agreement.specs.declared.account.SameAs.{SameAs}
 use Rattle.aide_db.specs.Map.{database_of}
-use Rattle.aide_left_out.specs.LeftOut.{left_out}
 use Rattle.aide_left_out.specs.Meaning.{GivesRight}
 use Rattle.aide_left_out.proofs.Laws.{longer_leaves_out, nothing_left_out, rights_stay}
 use Rattle.aide_line_text.specs.declared.account.Account.{Account}
@@ -17,7 +16,7 @@ use Rattle.aide_patterns.specs.Line.{RuleText}
 use Rattle.aide_line_run.specs.ChangeLines.{Accounts}
 use Rattle.aide_merge.specs.Said.{PathChange}
 use Rattle.aide_line_run.specs.BesideLines.{by_texts, by_trusted, lines_beside}
-use Rattle.aide_line_run.specs.Listed.{ListRead, account_by, leaves_between, left_by, measures_between}
+use Rattle.aide_line_run.specs.Listed.{ListRead, account_by, leaves_between, measures_between}
 use Rattle.aide_merge.specs.Asked.{Asked}
 use Rattle.aide_line_laws.specs.Field.{Field, count_json}
 use Rattle.aide_line_laws.specs.Reading.{SaysAccount, line_number, same_word}
@@ -67,11 +66,7 @@ module _ (list : ListRead) (old new trusted_old trusted_new : List ℕ) where
   pub longer_list_keeps : (longer : ListRead) (more : List RuleText) → longer.rules ≡ list.rules ++ more
       → (change : PathChange) (account : Account) → by_texts list old new trusted_old trusted_new change ≡ Some account
       → by_texts longer old new trusted_old trusted_new change ≡ Some account
-  longer_list_keeps longer more rules change account e =
-      let measures = measures_between old new in
-      longer_by (same_as change.1 (there change)) (left_by list measures change) (left_by longer measures change) account
-      (λ n out. ap (λ all. left_out all measures change.0 change.1) rules
-      ∙ longer_leaves_out list.rules more measures change.0 change.1 n out) e
+  longer_list_keeps longer more rules change account e = search (rules, longer_by, there, longer_leaves_out)
 
   -- The outcome, and with it the status, never depends on the list.
   pub outcome_is_without_list : (other : ListRead) (asked trusted : Asked)

@@ -1,5 +1,5 @@
 -- A path has a line exactly if the databases differ there, and the line says what accounts for this.
-use Rattle.std.proofs.Common.{◌≡◌, ◌∙◌, ℕ, Bool, true, false, List, [], ◌∷◌, map, Option, Some, None, inl, inr, refl, sym, ap, subst}
+use Rattle.std.proofs.Common.{◌≡◌, ◌∙◌, ◌∷◌, Bool, List, None, Option, Some, [], ap, false, inl, inr, map, refl, rules, subst, sym, true, ℕ}
 use Rattle.std.proofs.Common.{if◌then◌else◌}
 use Rattle.std.specs.Prelude.{◌&&◌, cond, not, T}
 use Rattle.std.specs.List.{AllByRecursion}
@@ -21,7 +21,6 @@ use Rattle.aide_db.specs.declared.limits.Limits.{Limits}
 use Rattle.aide_entry.specs.Attributes.{Attributes}
 use Rattle.aide_entry.specs.Path.{path_cmp}
 use Rattle.aide_entry.proofs.PathLaws.{path_cmp_total, path_cmp-IsAntisymmetric}
-use Rattle.aide_left_out.specs.Meaning.{IsLeftOut}
 use Rattle.aide_left_out.proofs.Laws.{left_out_from, left_out_means}
 use Rattle.aide_line_text.specs.declared.account.Account.{Account}
 use Rattle.aide_line_text.specs.declared.account.Account.TheVariants.{LeftOut, Old, Trusted}
@@ -32,7 +31,7 @@ use Rattle.aide_merge.specs.Said.{PathChange}
 use Rattle.aide_merge.specs.Said.{all_listed, is_in}
 use Rattle.aide_merge.proofs.MergeLemmas.{and_first, and_second, get-compared, lt_less, paired}
 use Rattle.aide_line_run.specs.BesideLines.{by_texts}
-use Rattle.aide_line_run.specs.Listed.{ListRead, account_by, left_by, measures_between}
+use Rattle.aide_line_run.specs.Listed.{ListRead, account_by}
 use Rattle.aide_line_laws.specs.ByteValues.{AreBytes}
 use Rattle.aide_line_laws.specs.Field.{Field}
 use Rattle.aide_line_laws.specs.OverMaps.{AreApart, HappenedThere, IsAbout, IsAccount, IsFramed, IsOneOf, LeavesOut, SayAll}
@@ -53,10 +52,7 @@ stayed_is : (pair : Pair) → StayedAsOld pair → is_as_old pair ≡ true
 stayed_is pair h = ap is_as_old h.both ∙ agree_from_meaning h.old h.new h.agrees
 
 not_stayed : (pair : Pair) → (StayedAsOld pair → ⊥) → is_as_old pair ≡ false
-not_stayed pair apart = elim (is_as_old pair) as (λ b. is_as_old pair ≡ b → b ≡ false) [
-  | true ↦ λ e. absurd (apart (is_stayed pair e))
-  | false ↦ λ e. refl
-] refl
+not_stayed pair apart = search (rules, is_stayed)
 
 both_of : (a b : Bool) → a && b ≡ true → (a ≡ true) × (b ≡ true)
 both_of true b e = (refl, e)
@@ -96,11 +92,7 @@ happened_is (None, None) (Some trusted_old, None) h = absurd h
 happened_is (None, None) (Some trusted_old, Some trusted_new) h = absurd h
 
 not_happened : (found trusted : Pair) → (HappenedThere found trusted → ⊥) → is_as_trusted found trusted ≡ false
-not_happened found trusted apart =
-    elim (is_as_trusted found trusted) as (λ b. is_as_trusted found trusted ≡ b → b ≡ false) [
-      | true ↦ λ e. absurd (apart (is_happened found trusted e))
-      | false ↦ λ e. refl
-    ] refl
+not_happened found trusted apart = search (rules, is_happened)
 
 -- what the tests give: the old entry first, then the trusted machine, then the line of a list
 abbrev chosen_by : Bool → Bool → Option ℕ → Option Account
@@ -237,12 +229,7 @@ module _ (options : Options) (old new : Database) (there : List ℕ → Pair) (l
 
   later : (change : PathChange) (all : List PathChange) (fields : List Field) → IsOneOf fields (lines_of all)
       → IsOneOf fields (lines_of (change ∷ all))
-  later change all fields is =
-      elim (is_in options all_listed change) as (λ b. IsOneOf fields
-      (map line (if b then change ∷ listed_changes options all else listed_changes options all))) [
-        | true ↦ inr is
-        | false ↦ is
-      ]
+  later change all fields is = search (rules, map, line)
 
   at_once : (change : PathChange) (all : List PathChange) → is_in options all_listed change ≡ true
       → IsOneOf (line change) (lines_of (change ∷ all))
@@ -340,10 +327,7 @@ pub by_texts_is_account : (list : ListRead) (old new trusted_old trusted_new : L
     → IsAccount change.1 (get (database_of trusted_old) change.0, get (database_of trusted_new) change.0)
     (left_out_of list old new change.0 change.1) (by_texts list old new trusted_old trusted_new change)
 by_texts_is_account list old new trusted_old trusted_new change =
-    let measures = measures_between old new in
-    account_by_is_account change.1 (get (database_of trusted_old) change.0, get (database_of trusted_new) change.0)
-    (left_by list measures change) (IsLeftOut list.rules measures change.0 change.1)
-    (left_out_means list.rules measures change.0 change.1) (left_out_from list.rules measures change.0 change.1)
+    search (rules, account_by_is_account, left_out_means, left_out_from)
 
 -- The lines over four texts, of which the first two are sound and of bytes, say all by what the trusted texts have and by
 -- what the list leaves out.

@@ -1,8 +1,8 @@
 -- What a reader gets back from the line of a change is the change: its path, its kind, what accounts for it, and both entries.
-use Rattle.std.proofs.Common.{◌≡◌, ℕ, Bool, true, false, List, ◌∷◌, ◌++◌, Option, Some, None, inl, inr, refl, ap, ◌∙◌}
+use Rattle.std.proofs.Common.{◌≡◌, ◌∷◌, ◌++◌, ◌∙◌, Bool, List, None, Option, Some, ap, false, refl, rules, true, ℕ}
 use Rattle.std.specs.Prelude.{codes, option_map, option_and_then}
 use Rattle.std.specs.Result.{result_ok}
-use Rattle.std.specs.Str.{bytes_eq, is_utf8}
+use Rattle.std.specs.Str.{bytes_eq}
 use Rattle.std.proofs.lemmas.Bool.{cases_Bool}
 use Rattle.hex.specs.Hex.{encode_lower}
 use Rattle.hex.proofs.HexLemmas.{decode_of-encode_lower}
@@ -29,10 +29,7 @@ use Rattle.aide_line_laws.proofs.Base64.{byte_at}
 pub past_text : (name own text : List ℕ) (fields : List Field) → bytes_eq own name ≡ false
     → bytes_eq (own ++ codes "_hex") name ≡ false
     → value_under name (text_field own text ∷ fields) ≡ value_under name fields
-past_text name own text fields e f = elim (cases_Bool (is_utf8 text)) [
-  | inl u ↦ rw (u, e) refl
-  | inr u ↦ rw (u, f) refl
-]
+past_text name own text fields e f = search (rules, cases_Bool)
 
 -- behind what may not be there the rest is read
 past_any : {X : Type 0} (name : List ℕ) (own : X → Field) (found : Option X) (fields : List Field)
@@ -117,31 +114,13 @@ module _ (account : Option Account) (shows : Attr → Bool) (found : Pair) where
       ∙ nothing_behind name f g h
 
   account_in_parts : SaysAccount account parts
-  account_in_parts =
-      let behind = field_if_any type (type_at found) ++ sides in
-      let no_word = nothing_behind (codes "same_as") refl refl refl in
-      let no_number = nothing_behind (codes "left_out") refl refl refl in
-      record {
-        same_as = under_account (codes "same_as") same_word account behind no_word (word_of behind no_word);
-        left_out = under_account (codes "left_out") line_number account behind no_number (number_of behind no_number);
-      }
+  account_in_parts = search (rules, type, sides, nothing_behind, under_account, word_of, number_of)
 
   old_in_parts : value_under (codes "old") parts ≡ option_map (λ entry. object (members_of (entry_fields shows entry))) found.0
-  old_in_parts =
-      past_any (codes "old") account_field account (field_if_any type (type_at found) ++ sides)
-      (other_account (codes "old") refl refl)
-      ∙ past_any (codes "old") type (type_at found) sides (λ x. refl)
-      ∙ under_any (codes "old") (λ entry. object (members_of (entry_fields shows entry))) found.0
-      (field_if_any (side (codes "new")) found.1) refl
-      (nothing_any (codes "old") (side (codes "new")) found.1 (λ x. refl))
+  old_in_parts = search (rules, past_any, type, sides, other_account, under_any, side, nothing_any)
 
   new_in_parts : value_under (codes "new") parts ≡ option_map (λ entry. object (members_of (entry_fields shows entry))) found.1
-  new_in_parts =
-      past_any (codes "new") account_field account (field_if_any type (type_at found) ++ sides)
-      (other_account (codes "new") refl refl)
-      ∙ past_any (codes "new") type (type_at found) sides (λ x. refl)
-      ∙ past_any (codes "new") (side (codes "old")) found.0 (field_if_any (side (codes "new")) found.1) (λ x. refl)
-      ∙ last_any (codes "new") (λ entry. object (members_of (entry_fields shows entry))) found.1 refl
+  new_in_parts = search (rules, past_any, type, sides, other_account, side, last_any)
 
 -- ---- the laws
 
@@ -165,14 +144,7 @@ pub text_is_read : (name text : List ℕ) (fields : List Field) → AreBytes tex
     → bytes_eq (name ++ codes "_hex") name ≡ false → bytes_eq (name ++ codes "_hex") (name ++ codes "_hex") ≡ true
     → value_under name fields ≡ None → text_under name (text_field name text ∷ fields) ≡ Some text
 text_is_read name text fields bytes e f g none =
-    let hex = name ++ codes "_hex" in
-    let digits = string (encode_lower text) in
-    elim (cases_Bool (is_utf8 text)) [
-      | inl u ↦ rw u (λ i. chosen (own_name name name (string text) fields e i)
-          (value_under hex ((name, string text) ∷ fields)))
-      | inr u ↦ rw u ((λ i. chosen ((other_name name hex digits fields f ∙ none) i) (own_name hex hex digits fields g i))
-          ∙ read_in_base_16 text bytes)
-    ]
+    search (rules, cases_Bool, chosen, own_name, other_name, read_in_base_16)
 
 -- What is under "path" is the path of the change.
 pub path_is_read_back : (options : Options) (account : Accounts) (change : PathChange) → AreBytes change.0
@@ -190,10 +162,7 @@ kind_is_read_back options account change = refl
 -- What is under "summary" is its summary string.
 pub summary_is_read_back : (options : Options) (account : Accounts) (change : PathChange)
     → text_under (codes "summary") (change_fields options account change) ≡ Some (letters_of options.ignore change.1)
-summary_is_read_back options account change =
-    ap (λ o. chosen o (value_under (codes "summary_hex") (change_fields options account change)))
-    (past_text (codes "summary") (codes "path") change.0 ((codes "summary", string (letters_of options.ignore change.1))
-    ∷ parts (account change) (shows_at (widest options) change.1) change.1) refl refl)
+summary_is_read_back options account change = search (rules, chosen, past_text, parts)
 
 -- What accounts for it is there: an entry by its word, the line of a list by its number, or nothing.
 pub account_is_read_back : (options : Options) (account : Accounts) (change : PathChange)

@@ -1,5 +1,5 @@
 -- The line of a configuration is one object of JSON and one line.
-use Rattle.std.proofs.Common.{◌≡◌, ℕ, Bool, true, List, Option, Some, None, refl, arith}
+use Rattle.std.proofs.Common.{◌≡◌, Bool, List, None, Option, Some, arith, refl, rules, true, ℕ}
 use Rattle.std.specs.Prelude.{codes}
 use Rattle.json.specs.Json.{boolean, null, string}
 use Rattle.std.specs.List.{filter}
@@ -56,16 +56,7 @@ set_of name set e =
     (filter (has set) all_attrs)))
 
 sets_of : (ignore : Ignore) → AreMembers 1 (set_members ignore) (set_fields ignore)
-sets_of ignore = (
-  set_of (codes "report_ignore_added_attrs") ignore.added refl,
-  (
-    set_of (codes "report_ignore_removed_attrs") ignore.removed refl,
-    (
-      set_of (codes "report_ignore_changed_attrs") ignore.changed refl,
-      (set_of (codes "report_force_attrs") ignore.force refl, tt),
-    ),
-  ),
-)
+sets_of ignore = search (rules, set_of)
 
 -- The line of a configuration is one, if the paths are of bytes.
 pub settings_line_is_json : (options : Options) (old_path new_path : Option (List ℕ))

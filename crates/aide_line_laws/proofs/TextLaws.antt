@@ -1,5 +1,5 @@
 -- The changes of two texts of bytes are of bytes, and so their lines are lines of JSON.
-use Rattle.std.proofs.Common.{ℕ, zero, suc, ◌/◌, ◌%◌, ◌^◌, ◌<◌, true, false, if◌then◌else◌, List, [], ◌∷◌, ◌++◌, map, Some, None}
+use Rattle.std.proofs.Common.{◌/◌, ◌%◌, ◌^◌, ◌<◌, ◌∷◌, ◌++◌, List, None, Some, [], false, if◌then◌else◌, map, rules, suc, true, zero, ℕ}
 use Rattle.std.proofs.Common.{slice_index, ◌∙◌, refl, sym, ap, subst, arith, append_assoc, append-nil}
 use Rattle.std.specs.Prelude.{drop}
 use Rattle.std.specs.declared.cmp.Ordering.TheVariants.{Less, Equal, Greater}
@@ -147,10 +147,7 @@ changes_bytes limits old new old_sound new_sound h k =
 -- the changes of the entry lines of any two texts
 pub begun_bytes : (old new : List ℕ) → AreBytes old → AreBytes new
     → AllByRecursion IsChangeOfBytes (merged path_cmp (entries_of old) (entries_of new))
-begun_bytes old new h k =
-    merged_bytes (entries_of old) (entries_of new)
-    (entries_bytes (columns_of_text old) (entry_lines old) (entry_lines_bytes old h))
-    (entries_bytes (columns_of_text new) (entry_lines new) (entry_lines_bytes new k))
+begun_bytes old new h k = search (rules, merged_bytes, entries_bytes, entry_lines_bytes)
 
 -- ---- lines
 
