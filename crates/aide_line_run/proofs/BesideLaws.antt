@@ -1,6 +1,6 @@
 -- What has gone out beside a trusted pair at a fault, and what is to be written.
 use Rattle.std.specs.Io.KnownBytes.{Appends}
-use Rattle.std.specs.Prelude.{◌≡◌, ℕ, true, List, [], ◌∷◌, ◌++◌, map, Option, None}
+use Rattle.std.specs.Prelude.{◌≡◌, ℕ, List, [], ◌∷◌, ◌++◌, map, Option, None}
 use Rattle.std.proofs.Common.{refl, sym, ap, ◌∙◌, append_assoc}
 use Rattle.aide_db.specs.Map.{database_of}
 use Rattle.aide_db.specs.declared.limits.Limits.{Limits}

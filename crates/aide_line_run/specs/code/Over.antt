@@ -1,5 +1,5 @@
 -- What is true of the changes that merges have still to give, where the texts of their databases are known.
-use Rattle.std.specs.Prelude.{◌≡◌, ℕ, List, ◌++◌, Option, Result, Ok, Err, true}
+use Rattle.std.specs.Prelude.{◌≡◌, ℕ, List, ◌++◌, Result, Ok, Err, true}
 use Rattle.std.specs.FinMap.Entries.{is_sorted}
 use Rattle.aide_conf.specs.declared.options.Options.{Options}
 use Rattle.aide_db.specs.DeskView.{DeskView}

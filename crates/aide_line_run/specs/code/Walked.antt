@@ -1,5 +1,5 @@
 -- What a walk over both pairs keeps, and what it has written and counted.
-use Rattle.std.specs.Prelude.{◌≡◌, ◌<◌, ◌^◌, ℕ, List, ◌++◌, Option, Result, IfOk, false, true}
+use Rattle.std.specs.Prelude.{◌≡◌, ◌<◌, ◌^◌, ℕ, List, ◌++◌, Result, IfOk, false, true}
 use Rattle.std.specs.FinMap.Entries.{is_sorted}
 use Rattle.aide_conf.specs.declared.options.Options.{Options}
 use Rattle.aide_db.specs.DeskView.{DeskView}
