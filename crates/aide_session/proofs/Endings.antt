@@ -246,15 +246,10 @@ ends_fault (Database fault) r named reliable rose out bytes_of is_missing old ne
     run_database fault.side fault.line fault.kind r named reliable rose out old new c d e f m n ends.1 ends.0 fed cause unfailed put
 ends_fault (Changed side) r named reliable rose out bytes_of is_missing old new c d e f m n told_old told_new ends fed cause
     unfailed put =
-    by_stop r (IsHindered old new rose out) (Changed side)
-    (Ends (answer_by named r) named 18 (sinks c d e f m n) ((reliable ≡ false) × rose) out)
-    (run_right r (Changed side) named c d e f m n ((reliable ≡ false) × rose) out ends.1 put) (λ hindered. absurd hindered) ends.0
+    search (rules, by_stop, answer_by, sinks, run_right)
 ends_fault (Write written) r named reliable rose out bytes_of is_missing old new c d e f m n told_old told_new ends fed cause
     unfailed put =
-    by_stop r (IsHindered old new rose out) (Write written)
-    (Ends (answer_by named r) named 18 (sinks c d e f m n) ((reliable ≡ false) × rose) out)
-    (run_right r (Write written) named c d e f m n ((reliable ≡ false) × rose) out ends.1 put)
-    (λ hindered. run_broken r named unwritten c d e f m n ((reliable ≡ false) × rose) out ends.1 hindered put) ends.0
+    search (rules, by_stop, answer_by, sinks, run_right, run_broken)
 
 pub same_some : (o : Option (List ℕ)) (x y : List ℕ) → o ≡ Some x → o ≡ Some y → x ≡ y
 same_some o x y p q =

@@ -1,4 +1,5 @@
-use Rattle.std.proofs.Common.{◌∙◌, ap, refl, Some, Err}
+use Rattle.std.proofs.Common.{rules}
+use Rattle.std.proofs.Common.{refl, Some}
 use Rattle.aide_words.specs.Job.{text_of_job}
 use Rattle.aide_session.specs.LineSession.{check_job_of}
 use Rattle.aide_session.specs.Says.{settings_told}
@@ -9,10 +10,7 @@ use Rattle.aide_session.proofs.Endings.{ends_refused, ends_starved}
 use Rattle.aide_session.proofs.lines_program.run_check_words.Goals as goal
 
 pub returns-then-job-clause-ends : goal.returns-then-job-clause-ends
-returns-then-job-clause-ends g c = λ named a is.
-    let none = compares_no_check c.args.words.now (text_of_job c.in-Ok.job) c.in-Ok.ensures.ok c.if-job.true in
-    ends_refused a named _ 15 _ _ _ _ _ _ _ (usage_is (Some settings_told) _ (check_job_of c.args.words.now) named a none is)
-    c.put_lines_usage_line.ensures
+returns-then-job-clause-ends g c = search (rules, compares_no_check, ends_refused, usage_is)
 
 pub returns-then-job-clause-closes : goal.returns-then-job-clause-closes
 returns-then-job-clause-closes g c =
@@ -29,16 +27,10 @@ returns-else-job-clause-closes g c = c.run_job.ensures.closes (check_job_of c.ar
     (is_check c.args.words.now (text_of_job c.in-Ok.job) c.in-Ok.ensures.ok c.if-job.false)
 
 pub returns-in-Err-Usage-clause-ends : goal.returns-in-Err-Usage-clause-ends
-returns-in-Err-Usage-clause-ends g c = λ named a is.
-    let none = no_check c.args.words.now (c.read_words.ensures.usage (c.in-Err-Usage.is ∙ ap Err c.in-Err-Usage.field-0-is)) in
-    ends_refused a named _ 15 _ _ _ _ _ _ _ (usage_is (Some settings_told) _ (check_job_of c.args.words.now) named a none is)
-    c.put_lines_usage_line-in-Err-Usage.ensures
+returns-in-Err-Usage-clause-ends g c = search (rules, no_check, ends_refused, usage_is)
 
 pub returns-in-Err-Usage-clause-closes : goal.returns-in-Err-Usage-clause-closes
-returns-in-Err-Usage-clause-closes g c =
-    closes_misused (Some settings_told) _ (check_job_of c.args.words.now) _ _ _ _ _ _ _ _
-    (no_check c.args.words.now (c.read_words.ensures.usage (c.in-Err-Usage.is ∙ ap Err c.in-Err-Usage.field-0-is)))
-    c.put_lines_usage_line-in-Err-Usage.ensures refl refl
+returns-in-Err-Usage-clause-closes g c = search (rules, closes_misused, no_check)
 
 pub returns-in-Err-Memory-clause-ends : goal.returns-in-Err-Memory-clause-ends
 returns-in-Err-Memory-clause-ends g c = λ named a is. ends_starved a named _ _ _ _ _ _ _ c.put_memory_line.ensures

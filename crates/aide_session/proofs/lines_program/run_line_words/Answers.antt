@@ -43,14 +43,7 @@ returns-in-Err-Usage-clause-compares g c = λ job is.
     absurd (is_none_and_some _ _ (c.read_line_words.ensures.usage (c.in-Err-Usage.is ∙ ap Err c.in-Err-Usage.field-0-is)) is)
 
 pub returns-in-Err-Memory-clause-alone : goal.returns-in-Err-Memory-clause-alone
-returns-in-Err-Memory-clause-alone g c = λ none. record {
-  ends = λ named a is. ends_starved a named _ _ _ _ _ _ _ c.put_memory_line.ensures;
-  closes = closes_starved (Some settings_told) _ (check_job_of c.args.words.now) _ _ _ _ _ _ _ _ c.put_memory_line.ensures refl refl;
-  unopened = refl;
-  still = refl;
-  trusted_unopened = refl;
-  trusted_still = refl;
-}
+returns-in-Err-Memory-clause-alone g c = search (rules, ends_starved, closes_starved)
 
 pub returns-in-Err-Memory-clause-compares : goal.returns-in-Err-Memory-clause-compares
 returns-in-Err-Memory-clause-compares g c = search (rules, appends_none)
