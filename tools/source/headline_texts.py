@@ -37,8 +37,8 @@ How to read a definition:
   or of the part that the sentence is about.
 - In a clause `.old` is the value before the call, `.new` the value after it,
   and `.now` what a reference points to. `S.x`, `W.x` and `E.x` are what
-  contracts see of the sources or the site, of the output and of standard error;
-  a table at the end lists them.
+  contracts see of the sources or the site, of the output and of standard error.
+  A table at the end lists them.
 """
 INTRO_OF_THEOREM = """\
 # What the lines of JSON say, and what is silent
@@ -53,15 +53,15 @@ to read a definition. Read this page to know which changes are silent:
 > two entries and they agree. Otherwise it says that the trusted machine does
 > exactly if the same happened there: it has an entry that agrees with the new
 > one and that its own old entry does not agree with, or it had an entry that
-> agrees with the removed one, and has none any more. Otherwise it has the
+> agrees with the removed one, and has none any more. Otherwise it contains the
 > number of a line of the list exactly if that line leaves the change out.
 > No line ever says that anything else accounts for a change.
 
 After any fault, and if the output fails, no last line has been written. So a
 reader never takes the lines for complete. [HEADLINE_LISTS.md](HEADLINE_LISTS.md)
 says when a line of a list leaves a change out, and what no list does.
-[HEADLINE_JSON.md](HEADLINE_JSON.md) has the call that writes lines, all that it
-promises, and the text of each line.
+[HEADLINE_JSON.md](HEADLINE_JSON.md) contains the call that writes lines, all
+that it promises, and the text of each line.
 
 A line that begins with `-- Example` marks a definition that would hurt if it
 were wrong. `rt check` proves each example
@@ -80,9 +80,9 @@ makes a change silent. Read this page to know what a list can make silent:
 > A line of a list leaves a change out only if neither the old entry nor a
 > trusted machine accounts for it. It is the first line that names the path. If
 > one of the two entries is that of a program, the line names programs too. The
-> path is not that of the settings. Neither entry gives anybody a right, and the
-> change lets nobody write a directory who could not write it before. A name
-> that begins with a dot is named only by a component that begins with one.
+> path is not that of the settings. Neither entry gives anybody a right, and
+> only users who could write a directory before can write it after the change.
+> Only a component that begins with a dot names what begins with one.
 
 A line that begins with `-- Example` marks a definition that would hurt if it
 were wrong. `rt check` proves each example
@@ -93,20 +93,20 @@ INTRO_OF_LINES = """\
 
 `python3 -m tools.source.headline_page --write` writes this page too, and the
 tests compare it with the definitions. [HEADLINE.md](HEADLINE.md) explains how
-to read a definition. It also has the definitions that the report needs too: the
-maps, their changes, the summary string, and what arguments ask for. This page
-has only those that the lines add. [HEADLINE_LINES.md](HEADLINE_LINES.md) says
-what the lines mean.
+to read a definition. It also contains the definitions that the report needs
+too: the maps, their changes, the summary string, and what arguments ask for.
+This page contains only those that the lines add.
+[HEADLINE_LINES.md](HEADLINE_LINES.md) says what the lines mean.
 """
 OF_LIST_LAWS = f"""\
 These laws (`{LIST_LAWS}`) are about the
-lines over any four texts with a list. What an entry accounts for, and what
-gives a right, stays as it is without a list. An empty list changes nothing. A
+lines over any four texts with a list. A list changes neither what an entry
+accounts for nor what gives a right. An empty list changes nothing. A
 longer list changes no account that there was. The status is that of the report."""
 OF_LAWS = f"""\
 Both laws (`{LAWS}`) are proved of the
 record that the public call promises. The second is the first for a trusted pair
-of two databases without entries, which has nothing at any path:"""
+of two databases without entries:"""
 OF_VALUES = """\
 [HEADLINE.md](HEADLINE.md) says what a field means by its form (`value_of`), and
 which number digits write (`bits_of`)."""
@@ -115,7 +115,7 @@ Its premise also names the job that the arguments ask for, and says that the
 configuration is accepted with these settings. The definitions of both are not
 printed here:"""
 OF_TWO = "Two databases"
-OF_PROGRAM = "The whole program, by arguments and files"
+OF_PROGRAM = "The complete program, by arguments and files"
 FILES = """\
 Contracts do not see the bytes of a machine's files, so no clause above is about
 them. Two fields of the record that `run` promises are. In them `a` and `b` are
@@ -126,4 +126,4 @@ written that it is lines of JSON (`AreJsonLines`):"""
 OF_THINGS = """\
 A digest is a number here, since no definition asks what a digest is made of:"""
 OF_LIST_THINGS = """\
-[HEADLINE_LINES.md](HEADLINE_LINES.md) has the entries of the examples."""
+[HEADLINE_LINES.md](HEADLINE_LINES.md) contains the entries of the examples."""
