@@ -204,7 +204,7 @@ class SetupTest(CommandTest):
         mode = os.stat(self.path("root/etc/cron.daily/aide-compare")).st_mode
         self.assertEqual(stat.S_IMODE(mode), 0o755, "a job that cron runs")
         self.write("root/run/systemd/system/keep", "")
-        said = b"is there beside the timer; remove it\n"
+        said = b"compares each day, and so does the timer: remove it\n"
         self.expect("cron's job and the timer", self.call(TOOL), 18, None, said)
 
     def test_other_system(self) -> None:

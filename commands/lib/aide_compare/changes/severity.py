@@ -188,7 +188,7 @@ class Severity:
         places = (os.path.normpath(os.path.join(HERE, part)) for part in SHIPPED)
         path = path or next((place for place in places if os.path.isfile(place)), None)
         if path is None:
-            raise Fault(Status.DEVICE, "severity.conf is missing beside this command")
+            raise Fault(Status.DEVICE, "severity.conf is missing: install this command again")
         lines = lines_of(path, "the table of severities")
         rows = [self._rows(number, *line) for number, line in enumerate(lines)]
         self.table = Table([row for each in rows for row in each])

@@ -155,7 +155,7 @@ class Machine:
     def refuse_other_job(self) -> None:
         """With two jobs each mail would come twice."""
         if self.has_timer and os.path.lexists(PATHS.cron_job):
-            text = f"{PATHS.cron_job} is there beside the timer; remove it"
+            text = f"{PATHS.cron_job} compares each day, and so does the timer: remove it"
             raise Fault(Status.DEVICE, text)
 
     def reader(self) -> str:

@@ -130,5 +130,5 @@ def refuse_other_texts(exclusions: Exclusions) -> None:
         except UnicodeDecodeError:
             is_text = False
         if not is_text:
-            why = "it is not in UTF-8; a ? stands for any byte"
+            why = "it is not in UTF-8; write ? for any byte"
             raise Fault(Status.CONFIGURATION, f"{line.place}: {why}: {shown(line.text, MAX_SHOWN)}")

@@ -129,6 +129,6 @@ def keep_open(old: Copy, new: Copy, is_open: Callable[[bytes], bool]) -> Merged:
 def _other_columns(new: Copy) -> Fault:
     why = (
         f"refused: {shown(new.name)} has other columns (@@db_spec) than the baseline, "
-        "so lines of both cannot stand in one database"
+        "so one database cannot contain lines of both"
     )
     return Fault(Status.DATABASE, why, "nothing can be kept open; accept all of it")

@@ -108,6 +108,6 @@ def shortened(message: bytes, why: str) -> bytes:
     payload = text_part(whole).get_payload(decode=True)
     data = payload if isinstance(payload, bytes) else b""
     lines = [line[:MAX_FIRST_WIDTH] for line in data.split(b"\n")[:MAX_FIRST_LINES]]
-    reason = f"The whole mail of {len(message)} bytes was refused: {why}\n"
+    reason = f"The mail of {len(message)} bytes was refused: {why}\n"
     text = clean(f"{reason}The first lines of it:\n\n") + clean(b"\n".join(lines) + b"\n")
     return build(str(whole["To"]), str(whole["Subject"]), text)
