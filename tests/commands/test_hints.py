@@ -43,6 +43,8 @@ class HintsTest(CommandTest):
     def test_whole_files(self) -> None:
         self.hinted(NEW[:-9], b"no @@end_db\n", b"ends too early")
         self.hinted(b"", b"no @@begin_db\n", b"it is empty: does AIDE run now?")
+        other_ends = NEW.replace(b"\n", b"\r\n")
+        self.hinted(other_ends, b"; its lines end in CR and LF: copy it byte by byte\n")
 
     def test_packed(self) -> None:
         """What does not begin as a database may be packed, and is not quoted then."""

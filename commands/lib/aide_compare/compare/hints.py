@@ -23,6 +23,7 @@ UNKNOWN_BEGINNING = (
     "it is not an AIDE database, its beginning is missing, or it is packed by another program than "
     "gzip"
 )
+OTHER_ENDS = "its lines end in CR and LF: copy it byte by byte"
 # What the words of a refusal mean, where they say too little.
 CAUSES = {
     b"no @@end_db": ("it ends too early: was the disk full, or is AIDE still writing it?",),
@@ -54,12 +55,12 @@ def _start_of_line(descriptor: int, number: int) -> bytes:
 
 def _database_hints(side: str, number: int, words: bytes, copy: Copy) -> Iterator[str]:
     name = f"the {side} is {shown(copy.name)}"
+    line = _start_of_line(copy.fd, number)
     if words == b"no @@begin_db" and copy.size:
-        name += f"; {UNKNOWN_BEGINNING}"
+        name += "; " + (OTHER_ENDS if line == b"@@begin_db\r" else UNKNOWN_BEGINNING)
     yield name
     if not copy.size:
         yield "it is empty: does AIDE run now? It fills its new database at its end"
-    line = _start_of_line(copy.fd, number)
     if line and not re.search(BINARY, line):
         yield f"line {number}: {shown(line, 200)}"
     yield from CAUSES.get(words, ())
