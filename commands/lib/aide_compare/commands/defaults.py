@@ -41,6 +41,15 @@ def are_same(databases: Sequence[str], named: Sequence[str]) -> bool:
     return False
 
 
+def is_missing(path: str) -> bool:
+    """Whether there is nothing at a path, as far as this user can see."""
+    try:
+        os.lstat(path)
+    except OSError as error:
+        return isinstance(error, FileNotFoundError)
+    return False
+
+
 def comparison_defaults(
     databases: Sequence[str],
     words: Sequence[str],
@@ -50,9 +59,12 @@ def comparison_defaults(
     """What the administrator's defaults give these options of a comparison. `databases` are those
     that the words of the command line name, if they name some."""
     defaults = defaults_for((DATABASES, *options), words)
-    if databases and not are_same(databases, defaults.get(DATABASES.attribute, ())):
+    named = defaults.get(DATABASES.attribute, ())
+    if databases and not are_same(databases, named):
         names = {option.attribute for option in MACHINES_DEFAULTS}
         return {name: value for name, value in defaults.items() if name not in names}
+    if named and is_missing(named[0]):
+        note(f"there is no baseline {shown(named[0])}: as root, aide-compare setup makes it")
     missing = [path for path in defaults.get(TRUSTED.attribute, ()) if not os.path.lexists(path)]
     if missing:
         note(f"there is no {shown(missing[0])} yet, so no trusted pair accounts for a change")
