@@ -320,4 +320,4 @@ class SetupTest(CommandTest):
         self.write(DATABASES + "aide.db", OLD)
         self.expect("another user", self.call(TOOL, before=AS_NOBODY), 15, b"", b"only root")
         os.remove(aide)
-        self.expect("no AIDE", self.call(TOOL), 18, b"", b"apt install aide")
+        self.expect("no AIDE", self.call(TOOL), 18, b"", b"apt install aide-common\n")

@@ -258,7 +258,8 @@ def main(arguments: Sequence[str]) -> int:
         os.dup2(os.open("/dev/null", os.O_WRONLY | os.O_CLOEXEC), 1)
     configurations = (PATHS.debian_configuration, PATHS.other_configuration)
     if not any(map(os.path.lexists, configurations)):
-        text = "AIDE is not installed here, or has no configuration; on Debian: apt install aide"
+        text = "AIDE is not installed here, or has no configuration"
+        text += "; on Debian: apt install aide-common"
         raise Fault(Status.DEVICE, text)
     if os.geteuid() != 0 and not request.is_check:
         text = "only root can set this up; --check is for everybody"
