@@ -80,9 +80,10 @@ makes a change silent. Read this page to know what a list can make silent:
 > A line of a list leaves a change out only if neither the old entry nor a
 > trusted machine accounts for it. It is the first line that names the path. If
 > one of the two entries is that of a program, the line names programs too. The
-> path is not that of the settings. Neither entry gives anybody a right, and
-> only users who could write a directory before can write it after the change.
-> Only a component that begins with a dot names what begins with one.
+> path is not that of the settings. Neither entry gives anybody a right. Only
+> users who could write a directory before can write it after the change, and
+> only its owner can write a new one. Only a component that begins with a dot
+> names what begins with one.
 
 A line that begins with `-- Example` marks a definition that would hurt if it
 were wrong. `rt check` proves each example
