@@ -91,7 +91,7 @@ def rows_of(bench: Bench, entries: int, pair: str) -> None:
         str(entries),
         pair,
         bench.runs,
-        Command("`aide_lines` alone", [program, "-E", "-c", "/dev/null", "-A", settings]),
+        Command("`aide_lines`, the program", [program, "-E", "-c", "/dev/null", "-A", settings]),
         Command("`aide-compare OLD NEW`", [compare, old, new]),
         Command("`aide-compare --state FILE OLD NEW`", [compare, *state, old, new]),
         Command("`aide-compare -q --state FILE OLD NEW`", [compare, "-q", *state, old, new]),
