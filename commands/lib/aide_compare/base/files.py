@@ -46,6 +46,15 @@ def given_descriptor(path: str) -> int | None:
     return None
 
 
+def is_missing(path: str) -> bool:
+    """Whether there is nothing at a path, as far as this user can see."""
+    try:
+        os.lstat(path)
+    except OSError as error:
+        return isinstance(error, FileNotFoundError)
+    return False
+
+
 def file_kind(mode: int) -> str:
     return "a " + FILE_KINDS.get(stat.S_IFMT(mode), "device")
 

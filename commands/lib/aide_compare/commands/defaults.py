@@ -9,6 +9,7 @@ from typing import TYPE_CHECKING
 
 from aide_compare.base.ending import Fault, Status, say
 from aide_compare.base.escapes import shown
+from aide_compare.base.files import is_missing
 from aide_compare.base.options import (
     COMPARISON_DEFAULTS,
     DATABASES,
@@ -38,15 +39,6 @@ def are_same(databases: Sequence[str], named: Sequence[str]) -> bool:
     """Whether databases are those that the defaults name, by whatever names."""
     with suppress(OSError):
         return bool(named) and all(map(os.path.samefile, databases, named))
-    return False
-
-
-def is_missing(path: str) -> bool:
-    """Whether there is nothing at a path, as far as this user can see."""
-    try:
-        os.lstat(path)
-    except OSError as error:
-        return isinstance(error, FileNotFoundError)
     return False
 
 

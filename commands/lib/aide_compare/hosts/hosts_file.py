@@ -5,23 +5,26 @@ import os
 
 from aide_compare.base.ending import Fault, Status
 from aide_compare.base.escapes import shown
-from aide_compare.base.files import read_file, read_whole
+from aide_compare.base.files import is_missing, read_file, read_whole
 from aide_compare.base.replacement import replace
 
 MAX_BYTES = 16 << 20
 WHAT = "the file of hosts "
+CURE = "aide-compare hosts add adds one"
 
 
 def hosts_of(path: str) -> list[str]:
     """The names in a file, each once."""
     if path == "-":
         data = read_whole(0, MAX_BYTES, WHAT)
+    elif is_missing(path):
+        raise Fault(Status.DEVICE, f"there is no file of hosts {shown(path)}: {CURE}")
     else:
         data = read_file(path, MAX_BYTES, WHAT)
     lines = [line.strip() for line in data.decode("utf-8", "surrogateescape").split("\n")]
     names = list(dict.fromkeys(line for line in lines if line and not line.startswith("#")))
     if not names:
-        raise Fault(Status.DEVICE, f"there is no host in the file {shown(path)}")
+        raise Fault(Status.DEVICE, f"there is no host in the file {shown(path)}: {CURE}")
     return names
 
 
