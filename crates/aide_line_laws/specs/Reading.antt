@@ -22,11 +22,11 @@ abbrev pub text_of : Json → Option (List ℕ)
 text_of (string text) = Some text
 text_of json = None
 
--- the bytes of which a string has the digits in base 16
+-- the bytes whose digits in base 16 a string contains
 abbrev pub bytes_of : Json → Option (List ℕ)
 bytes_of json = option_and_then (λ digits. result_ok (decode_of digits)) (text_of json)
 
--- the text under a name: that of the string there; where none is, the bytes under the name for base 16
+-- the text under a name: that of the string there; if there is none, the bytes under the name for base 16
 abbrev pub text_under : List ℕ → List Field → Option (List ℕ)
 text_under name fields = elim (value_under name fields) [
   | Some json ↦ text_of json

@@ -29,7 +29,7 @@ pub record PairFacts : Type 0 where
   pub of_trusted_old : ReadFacts
   pub of_trusted_new : ReadFacts
 
--- what accounts for each change, by what the trusted maps have at its path and by what a list leaves out
+-- what accounts for each change, by the entries of the trusted maps at its path and by what a list leaves out
 abbrev pub by_trusted : Leaves → (trusted_old trusted_new : Database) → Accounts
 by_trusted leaves trusted_old trusted_new change =
     account_by (same_as change.1 (get trusted_old change.0, get trusted_new change.0))

@@ -70,7 +70,7 @@ abbrev pub StopsForPair : Result Report PairFault → (PairFault → Type 0) →
 StopsForPair (Ok report) hindered fault = hindered fault
 StopsForPair (Err right) hindered fault = (fault ≡ right) ⊎ hindered fault
 
--- the whole of the answer's lines has been written, and its outcome is returned
+-- all of the answer's lines have been written, and its outcome is returned
 abbrev pub SendsWholeOf : Result Report PairFault → Outcome → Option (List ℕ) → Option (List ℕ)
     → Type 0
 SendsWholeOf (Ok report) outcome before after = (report.outcome ≡ outcome)
@@ -138,7 +138,7 @@ IsAnswerOver limits p fault = (old new : List ℕ) → p.before.bytes_of Old ≡
     → (r : Result Report DbFault) → RunsBy limits (report_over p.asked) old new r
     → r ≡ Err fault
 
--- What a fault of a pair means. It means what it means in a run over this pair alone.
+-- What a fault of a pair means: the same as in a run over only this pair.
 pub record IsFaultOfPair (limits : Limits) (p : PairSeen) (sink : Type 0)
     (fault : RunFault) : Type 0 where
   -- a fault of a text is its first one, and no side is called changed

@@ -34,7 +34,7 @@ abbrev pub all_sought : Leaves → List PathChange → List PathChange → List 
 all_sought leaves changes trusted =
     map (λ change. (change, sought_by leaves trusted change)) changes
 
--- the changes alone
+-- only the changes
 abbrev pub changes_of : List Accounted → List PathChange
 changes_of accounted = map (λ each. each.0) accounted
 

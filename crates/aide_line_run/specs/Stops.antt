@@ -1,4 +1,4 @@
--- What is said of a fault of a run that reads each database once.
+-- What a fault means of a run that reads each database once.
 use Rattle.std.specs.Io.KnownBytes.{Appends}
 use Rattle.std.specs.Prelude.{ℕ, [], List, Option, ⊤}
 use Rattle.aide_db.specs.declared.fault.DbFault.{DbFault}

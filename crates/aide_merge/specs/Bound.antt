@@ -1,4 +1,4 @@
--- How much of the databases is held in a run.
+-- How many bytes of the databases are in memory in a run.
 use Rattle.std.specs.Prelude.{ℕ, ◌≡◌, ◌≤◌, ◌+◌, ◌⊎◌, max, Option, Some, List, length}
 use Rattle.aide_db.specs.CursorView.{CursorView}
 use Rattle.aide_db.specs.DeskView.{DeskView}

@@ -15,13 +15,13 @@ use Rattle.aide_merge.specs.declared.run_fault.RunFault.{RunFault}
 use Rattle.aide_merge.specs.declared.run_fault.RunFault.TheVariants.{Open, Database, Changed}
 use Rattle.aide_merge.specs.declared.run_fault.RunFault.TheVariants.{Write}
 
--- if a write failed, the fault has the number of bytes that were written
+-- if a write failed, the fault names the number of bytes that were written
 abbrev pub HasWrittenIfAny : Option (List ℕ) → Option (List ℕ) → RunFault → Type 0
 HasWrittenIfAny old new (Write written) = IsCounted old new 0 written
 HasWrittenIfAny old new _ = ⊤
 
 -- If no write failed and the old side was opened at most this often, nothing has been written yet.
--- This is said only of runs in which the count of openings stays below its last value.
+-- This is stated only of runs in which the count of openings stays below its last value.
 abbrev pub HasSentNothing : (before_it opened_old opened_new : ℕ) → Option (List ℕ)
     → Option (List ℕ) → RunFault → Type 0
 HasSentNothing before_it opened_old opened_new old new (Write written) = ⊤
@@ -52,7 +52,7 @@ IsLater limits bytes_of (Changed side) = (text : List ℕ) → bytes_of side ≡
     → IsSound limits text → ⊥
 IsLater limits bytes_of (Write written) = ⊤
 
--- if a write failed, the fault has the number of bytes that the pen sent; otherwise no write has failed
+-- if a write failed, the fault names the number of bytes that the pen sent; otherwise no write has failed
 abbrev pub HasPenWritten : Pen → RunFault → Type 0
 HasPenWritten pen (Write written) = (pen.failed ≡ true) × (written ≡ pen.sent)
 HasPenWritten pen _ = pen.failed ≡ false

@@ -55,7 +55,7 @@ counts_told outcome shown = record {
   shown = shown;
 }
 
--- Each side was opened to be read whole, to count, and once for each section of entries of a report with this outcome.
+-- Each side was opened to be read to its end, to count, and once for each section of a report with this outcome.
 pub record OpensByOutcome (options : Options) (outcome : Outcome)
     (old new : Side → ℕ) : Type 0 where
   pub shown : ℕ

@@ -23,7 +23,7 @@ abbrev pub SendsFront : Result Report RunFault → Option (List ℕ) → Option 
 SendsFront (Ok report) before after = SendsPart report.text before after
 SendsFront (Err right) before after = Appends before after []
 
--- the whole of the answer's report has been written, and its outcome is returned
+-- all of the answer's report has been written, and its outcome is returned
 abbrev pub SendsWhole : Result Report RunFault → Outcome → Option (List ℕ) → Option (List ℕ)
     → Type 0
 SendsWhole (Ok report) outcome before after = (report.outcome ≡ outcome)

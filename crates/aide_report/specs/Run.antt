@@ -73,7 +73,7 @@ pub record IsRun (limits : Limits) (asked : Asked) (a b : Seen) (d e : DeskView)
   pub sources_never_fall : a.failures ≤ b.failures
   -- A failed write or flush is returned, and none is tried again.
   pub sink_fails : CountsWrites o.failures p.failures result
-  -- Each side is opened as often as the report needs it: to be read whole, to count, and for each section of entries.
+  -- Each side is opened as often as the report needs it: to be read to its end, to count, for each section of entries.
   pub opens : OnOk result ((old new : List ℕ) → a.bytes_of Old ≡ Some old
       → a.bytes_of New ≡ Some new
       → OpensExactly a.openings b.openings (openings_over asked old new))

@@ -39,7 +39,7 @@ unfoldable pub sections_over : Asked → List ℕ → List ℕ → ℕ
 sections_over asked old new =
     section_count asked.options (counts_of asked.options (database_of old) (database_of new))
 
--- how often each database is opened for it: once to be read whole, once to count, and once for each section
+-- how often each database is opened for it: once to be read to its end, once to count, and once for each section
 abbrev pub openings_over : Asked → List ℕ → List ℕ → ℕ
 openings_over asked old new = 2 + sections_over asked old new
 
@@ -58,7 +58,7 @@ IsRunFault limits asked bytes_of (Database fault) = (old new : List ℕ) → byt
     → is_outside fault.kind ≡ false → Runs limits asked old new (Err fault)
 IsRunFault limits asked bytes_of _ = ⊤
 
--- the whole of an answer's report has been written, and its outcome is returned
+-- all of an answer's report has been written, and its outcome is returned
 abbrev pub EndsWell : Result Report DbFault → Outcome → Option (List ℕ) → Option (List ℕ) → Type 0
 EndsWell (Ok report) outcome old new = (report.outcome ≡ outcome) × Appends old new report.text
 EndsWell (Err fault) outcome old new = ⊥

@@ -1,5 +1,5 @@
 -- The answer of a session: its output, its error lines and its status. What the arguments ask for and
--- the files determine it, and what is said of a configuration that is only checked.
+-- the files determine it, and what is written of a configuration that is only checked.
 use Rattle.std.specs.Prelude.{◌≡◌, ◌⊎◌, ℕ, ◌^◌, Bool, true, false, List, [], Ok, Err, Result}
 use Rattle.std.specs.Prelude.{Option, Some, None}
 use Rattle.aide_conf.specs.Settings.{Configured}
@@ -46,11 +46,11 @@ asked_by options named = record {
 abbrev pub refused : List ℕ → ℕ → Answer
 refused lines status = record { output = []; errors = lines; status = status }
 
--- the answer for a configuration without a fault that is only checked, if nothing is said about it
+-- the answer for a configuration without a fault that is only checked, if nothing is written about it
 abbrev pub checked : Answer
 checked = record { output = []; errors = []; status = 0 }
 
--- the same, by what is said of a configuration: the text is written if anything is
+-- the same, by what is to be written of a configuration: the text is, if there is one
 abbrev pub checked_by : Says → Configured → Answer
 checked_by None s = checked
 checked_by (Some says) s = record { output = says s; errors = []; status = 0 }
@@ -132,7 +132,7 @@ pub record IsJobAnswerBy (says : Says) (files : Files) (job : JobText) (named : 
 
 -- The answer to what the arguments ask for, over these files. It is the first fault of the
 -- arguments, of the configuration or of a database, or else what the job asks for. A named file that
--- is not there counts as a fault. `named` has the paths that are named on the way.
+-- is not there counts as a fault. `named` contains the paths that are named on the way.
 abbrev pub IsAnswerBy : Says → Files → Option JobText → Named → Answer → Type 0
 IsAnswerBy says files None named a = a ≡ refused (usage_by says) 15
 IsAnswerBy says files (Some job) named a = IsJobAnswerBy says files job named a

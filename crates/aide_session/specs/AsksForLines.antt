@@ -12,7 +12,7 @@ use Rattle.aide_words.specs.LineJob.{LineJobText, line_job_of}
 -- The arguments ask for this job, and this is read of the list that they give: its rules, and the
 -- digest of its text. The configuration is at the path that they name, and is accepted with these
 -- settings. At each of the two paths that it names, and at each of those of the trusted pair, there
--- is a text. `trusted_files` is `trusted_at` of what the second site tells, so that the empty database
+-- is a text. `trusted_files` is `trusted_at` of what the second site shows, so that the empty database
 -- is at an empty path.
 pub record AsksForLines (files trusted_files : Files) (words : List (List ℕ)) (job : LineJobText)
     (list : ListRead) (named : Named) (settings : Configured)

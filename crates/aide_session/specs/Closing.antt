@@ -204,7 +204,7 @@ ClosingCause files wanted named (good_run options outcome) site out =
     ((asks : AsksToCompare files wanted named) × (asks.settings.options ≡ options))
     × AreBothSound files named
 
--- How often the sides were opened. In a good run each side is opened to be read whole, to count, and once for each
+-- How often the sides were opened. In a good run each side is opened to be read to its end, to count, and once for each
 -- section of entries. The outcome gives this number, and so do both texts if they are known. A run with a fault opens
 -- no side more often than this, if both texts are known and sound. In a run that ends with the first fault of a text,
 -- no side is opened more than once. In a run that could not open a side, the last opening of that side was refused.

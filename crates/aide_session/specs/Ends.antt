@@ -63,7 +63,7 @@ FailureCause (unopened side) site out = site
 FailureCause (unread fault) site out = (fault.kind ≡ Read) × site
 FailureCause unwritten site out = out
 
--- the session ends with the whole answer
+-- the session ends with the complete answer
 pub record Whole (a : Answer) (status : ℕ) (sinks : Sinks) : Type 0 where
   pub status_is : status ≡ a.status
   pub output : Appends sinks.out_old sinks.out_new a.output

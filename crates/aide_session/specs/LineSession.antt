@@ -100,7 +100,7 @@ pub record IsLineComparison (job : LineJobText) (status : ℕ) (s t : SessionVie
       → IsLineAnswer s.files (trusted_at t.files) job named a
       → HoldsWithin (trusted_at t.files) (trusted_of job) desks.trusted_before desks.trusted_after
 
--- the check of a configuration alone that the arguments ask for, if they ask for one
+-- the check of only a configuration, if the arguments ask for one
 abbrev pub check_job_of : List (List ℕ) → Option JobText
 check_job_of words = option_and_then (λ job. if job.compare then None else Some job) (job_of words)
 

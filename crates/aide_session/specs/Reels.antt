@@ -3,7 +3,7 @@ use Rattle.std.specs.Prelude.{ℕ, List, Option, Some}
 use Rattle.aide_session.specs.declared.file_reel.FileReel.{FileReel}
 use Rattle.aide_session.specs.declared.file_reel.FileReel.TheVariants.{File, Text}
 
--- the bytes still to come, by what the reader of a file tells
+-- the bytes still to come, by what the reader of a file shows
 abbrev pub reel_to_come : {T : Type 0} → (T → Option (List ℕ)) → FileReel T → Option (List ℕ)
 reel_to_come remaining (File reel) = remaining reel.reader
 reel_to_come remaining (Text bytes) = Some bytes.now

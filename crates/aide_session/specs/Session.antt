@@ -54,7 +54,7 @@ view_between s w e site_old site_new out_old out_new err_old err_new = record {
       out_old out_new;
 }
 
--- A session with this status. `wanted` is what the arguments ask for, and `says` what is said of a configuration that
+-- A session with this status. `wanted` is what the arguments ask for, `says` what is written of a configuration that
 -- is only checked. A comparison writes the report.
 pub record IsSessionBy (says : Says) (wanted : Option JobText) (status : ℕ)
     (s : SessionView) : Type 0 where
@@ -77,7 +77,7 @@ pub record IsSessionBy (says : Says) (wanted : Option JobText) (status : ℕ)
       → Whole a status s.sinks ⊎ Starved a status s.sinks
   -- If standard error counts no failure, the lines have been passed on.
   pub passed_on : HasNoFailure s.sinks.err_before s.sinks.err_after → s.is_passed_on ≡ true
-  -- If the site tells what is at the paths of the named files, there is an answer.
+  -- If the site shows what is at the paths of the named files, there is an answer.
   pub answered : TellsNamed s.files wanted → HasSessionAnswerBy says s.files wanted
   -- Over any site: the lines, the status and the output are those of one closing, whose cause holds.
   pub closes : ClosesBy says s.files wanted status s.sinks s.course

@@ -65,7 +65,7 @@ aim_bytes files Nowhere = None
 aim_bytes files Empty = Some empty_database
 aim_bytes files (At path) = bytes_at files path
 
--- the bytes that a side gives whose files are not told
+-- the bytes that a side gives whose files are not shown
 abbrev pub aim_text : Aim → Option (List ℕ)
 aim_text Nowhere = None
 aim_text Empty = Some empty_database
@@ -95,7 +95,7 @@ side_openings s side = by_side s.old_openings s.new_openings side
 abbrev pub machine_path : {F : Type 0} → Machine F → Side → Option (List ℕ)
 machine_path s side = aim_path (by_side s.old_aim s.new_aim side)
 
--- the bytes that a side of such a site gives, if they are told: only those of the empty database
+-- the bytes that a side of such a site gives, if they are shown: only those of the empty database
 abbrev pub machine_text : {F : Type 0} → Machine F → Side → Option (List ℕ)
 machine_text s side = aim_text (by_side s.old_aim s.new_aim side)
 

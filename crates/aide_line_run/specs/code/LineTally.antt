@@ -42,7 +42,7 @@ abbrev pub with_entry : LineCounts → Pair → LineCounts
 with_entry counts (old, None) = counts
 with_entry counts (old, Some new) = record counts { total = counts.total + 1 }
 
--- counts with the line of what both databases have at one path
+-- counts with the line of the entries of both databases at one path
 abbrev pub with_kind : LineCounts → Pair → LineCounts
 with_kind counts (None, None) = counts
 with_kind counts (None, Some new) = record counts { added = counts.added + 1 }

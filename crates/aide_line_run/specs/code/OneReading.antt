@@ -76,7 +76,7 @@ pub record Reads {T : Type 0} (limits : Limits) (a b : Seen) (d e : DeskView)
   -- what a fault means
   pub fault : IfErr result (IsReadFault limits a b d.room sink)
 
--- What was read of the old side alone, whose reel was open.
+-- What was read of only the old side, whose reel was open.
 pub record IsOldFault (limits : Limits) (a b : Seen) (room : ℕ) (fault : DbFault) : Type 0 where
   pub of_side : fault.side ≡ Old
   pub first : (text : List ℕ) → a.bytes_of Old ≡ Some text → IsFaultOf limits text fault

@@ -1,4 +1,4 @@
--- What is true of the changes that merges have still to give, where the texts of their databases are known.
+-- What is true of the changes that merges have still to give, if the texts of their databases are known.
 use Rattle.std.specs.Prelude.{◌≡◌, ℕ, List, ◌++◌, Result, Ok, Err, true}
 use Rattle.std.specs.FinMap.Entries.{is_sorted}
 use Rattle.aide_conf.specs.declared.options.Options.{Options}
@@ -43,6 +43,6 @@ pub record AreDone {R X E : Type 0} (r : Reels R) (list : ListRead) (options : O
     (m : Merges R) (d u : DeskView) (done : List Accounted) (result : Result X E) : Type 0 where
   -- it is of the changes of the compared pair
   pub changes : OverMerge r m.compared d (λ all. IsDone result (changes_of done) all)
-  -- if they are in path order, what accounts for them is what the trusted pair has at their paths, or the list
+  -- if they are in path order, the entries of the trusted pair at their paths account for them, or the list
   pub lines : OverMerges r list m.compared d m.trusted u (λ leaves all beside. IsDone result
       (accounted_lines options done) (change_lines options (sought_by leaves beside) all))

@@ -112,7 +112,7 @@ pub record FlushesPair {W X : Type 0} (w : Sinks W) (a b : W)
   pub flushed : OnOk result (w.is_flushed b ≡ true)
   -- it was flushed once, and after a fault not at all
   pub flushes : CountsFlush (w.flushes a) (w.flushes b) result
-  -- a fault of a write has the number of bytes that were written
+  -- a fault of a write names the number of bytes that were written
   pub written : IfErr result (OfCompared (HasWrittenIfAny (w.delivered a) (w.delivered b)))
   -- a failed write or flush is reported, and none is tried again
   pub fails : CountsPairWrites (w.failures a) (w.failures b) result

@@ -8,7 +8,7 @@ use Rattle.aide_merge.specs.declared.change.AtPath.TheVariants.{Alike, Differs, 
 use Rattle.aide_merge.specs.declared.change.Change.{Change}
 use Rattle.aide_merge.specs.declared.change.Change.TheVariants.{Added, Removed, Common}
 
--- the path, and what each side has there
+-- the path, and the entry of each side there
 abbrev pub change_of : Change → Sided (List ℕ) Attributes
 change_of (Added new) = ((entry_in new).0, (None, Some (entry_in new).1))
 change_of (Removed old) = ((entry_in old).0, (Some (entry_in old).1, None))
@@ -23,7 +23,7 @@ pub record IsAlike (changes : List (Sided (List ℕ) Attributes)) : Type 0 where
   pub entry : Entry
   pub only : changes ≡ alike_of entry ∷ []
 
--- what the code shows at a path is what both sides have there
+-- the code shows at a path the entries of both sides there
 abbrev pub ShowsPath : AtPath → List (Sided (List ℕ) Attributes) → Type 0
 ShowsPath Alike changes = IsAlike changes
 ShowsPath (Differs change) changes = changes ≡ change_of change ∷ []

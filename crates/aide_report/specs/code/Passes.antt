@@ -20,7 +20,7 @@ use Rattle.aide_merge.specs.Seen.{Seen, KeepsSources}
 use Rattle.aide_merge.specs.declared.run_fault.RunFault.{RunFault}
 use Rattle.aide_merge.specs.code.Desks.{KeepsDesk}
 
--- What a fault of a pass means. A pass comes after both databases were read whole.
+-- What a fault of a pass means. A pass comes after both databases were read to their ends.
 pub record IsPassFault (limits : Limits) (a b : Seen) (room : ℕ) (sink : Type 0)
     (fault : RunFault) : Type 0 where
   -- the old side was opened first, unless a write failed
@@ -62,7 +62,7 @@ pub record KeepsPen {T : Type 0} (a b : Sheet) (pen : Pen)
   pub some : WritesSome a b
   -- after `Ok` no write has failed
   pub writes_on : OnOk result (pen.failed ≡ false)
-  -- a fault of a write has the number of bytes that were written; at any other fault no write has failed
+  -- a fault of a write names the number of bytes that were written; at any other fault no write has failed
   pub written : IfErr result (HasPenWritten pen)
 
 -- If both sides give their texts, all of what `text` says about them is written, and its beginning before a fault.
@@ -73,14 +73,14 @@ WritesOver bytes_of text result a b = (old new : List ℕ) → bytes_of Old ≡ 
     → bytes_of New ≡ Some new
     → Writes result (text old new) a b
 
--- What a whole report leaves of the sink.
+-- What a complete report leaves of the sink.
 pub record FlushesOnce {W T : Type 0} (w : Sinks W) (a b : W)
     (result : Result T RunFault) : Type 0 where
   -- after `Ok` the sink was flushed after its last byte
   pub flushed : OnOk result (w.is_flushed b ≡ true)
   -- it was flushed once, and after a fault not at all
   pub flushes : CountsFlush (w.flushes a) (w.flushes b) result
-  -- a fault of a write has the number of bytes that were written
+  -- a fault of a write names the number of bytes that were written
   pub written : IfErr result (HasWrittenIfAny (w.delivered a) (w.delivered b))
   -- the count of failures does not fall
   pub never_falls : w.failures a ≤ w.failures b

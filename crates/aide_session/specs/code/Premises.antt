@@ -27,7 +27,7 @@ pub record ReadsOnlyAs (job : JobText) (text : List ℕ)
   pub only : (other : Result Configured ConfFault)
       → ReadsAs (need_of job.compare) job.before text job.after other → other ≡ read
 
--- The comparison that is asked for, of what is told of the sides of a site. `Compares` says the
+-- The comparison that is asked for, of what is shown of the sides of a site. `Compares` says the
 -- same of what is at the paths.
 pub record ComparesSides (bytes_of : Side → Option (List ℕ))
     (is_missing : Side → Bool) (asked : Asked) (named : Named) (a : Answer) : Type 0 where
