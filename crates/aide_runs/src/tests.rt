@@ -1,5 +1,4 @@
 //! Sessions over files in memory, and over files of the machine.
-mod trusted;
 mod callers;
 mod desk;
 mod devices;
@@ -8,4 +7,5 @@ mod headline;
 mod lines;
 mod pages;
 mod session;
+mod trusted;
 mod words;

@@ -84,9 +84,10 @@ pub record IsOldFault (limits : Limits) (a b : Seen) (room : ℕ) (fault : DbFau
   pub reliable : a.is_reliable ≡ true → fault.kind ≡ Read → ⊥
   pub memory : limits.line ≤ room → IsNotMemory fault
 
--- the facts of the last line
+-- what the last line says of the old database of a reading
 abbrev pub old_read : Readings → ReadFacts
 old_read readings = record { digest = readings.digests.of_old; skipped = readings.skipped_old }
 
+-- what it says of the new one
 abbrev pub new_read : Readings → ReadFacts
 new_read readings = record { digest = readings.digests.of_new; skipped = readings.skipped_new }
