@@ -18,7 +18,7 @@ def fleet_of(*hosts: list[Fields]) -> Fleet:
     fleet = Fleet(NAMES)
     for number, changes in enumerate(hosts):
         for fields in changes:
-            fleet.add(number, outline_of(fields), fields)
+            fleet.add(number, outline_of(fields))
     fleet.gather()
     return fleet
 

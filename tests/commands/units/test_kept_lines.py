@@ -2,6 +2,7 @@
 and a share of each kind; and what is no such file."""
 from __future__ import annotations
 
+import io
 import json
 from typing import Any
 from unittest import mock
@@ -11,9 +12,11 @@ from tests.commands.units.streams import fields_of, line_of, objects_in, stream_
 
 from aide_compare.base.files import in_memory
 from aide_compare.changes.judged import Judged
+from aide_compare.compare import outputs
 from aide_compare.hosts import kept_lines
 from aide_compare.hosts.kept_lines import SHARES, KeptLines, write_kept
 from aide_compare.lines.change import Fields
+from aide_compare.lines import reader
 from aide_compare.lines.reader import Refused, reader_over
 
 USER = 1000
@@ -50,7 +53,11 @@ def read_back(*lines: Fields) -> list[str]:
 
 
 def read_bytes(data: bytes) -> list[str]:
-    return [outline.path.decode() for outline, _ in KeptLines(in_memory(data))]
+    return [outline.path.decode() for outline in kept_in(data).outlines()]
+
+
+def kept_in(data: bytes) -> KeptLines:
+    return KeptLines(io.BytesIO(data))
 
 
 class KeptLinesTest(ModuleTest):
@@ -104,7 +111,8 @@ class KeptLinesTest(ModuleTest):
         target = in_memory(b"")
         counts = write_kept(target, comparison, ROOM)
         assert counts is not None
-        self.assertEqual((counts.open, len(list(KeptLines(target)))), (2, 2))
+        self.assertEqual(counts.open, 2)
+        self.assertEqual(read_bytes(outputs.whole(target)), ["/srv/a", "/srv/b"])
         lines.is_cut = True
         self.assertIsNone(write_kept(target, comparison, ROOM))
         lines.is_cut = False
@@ -113,12 +121,10 @@ class KeptLinesTest(ModuleTest):
 
     def test_read(self) -> None:
         """A file that was kept comes back with what it says of the changes that have no line."""
-        kept = KeptLines(in_memory(kept_of(ROOM, *SOUND)))
-        outlines = list(kept)
-        self.assertEqual([fields for _, fields in outlines], SOUND)
-        lines = [(each.line, each.kind, each.silent) for each, _ in outlines]
+        kept = kept_in(kept_of(ROOM, *SOUND))
+        lines = [(each.line, each.kind, each.silent) for each in kept.outlines()]
         wanted = [(line_of(each), each["kind"], None) for each in SOUND]
-        self.assertEqual((lines, kept.told, kept.listed), (wanted, 2, 2))
+        self.assertEqual((lines, kept.told), (wanted, 2))
         self.assertEqual(read_back({"format": 3}, *SOUND, END), ["/srv/a", "/srv/b"])
 
     def test_refused(self) -> None:
@@ -126,11 +132,13 @@ class KeptLinesTest(ModuleTest):
         first = {"format": 3}
         few = {**END, "open": 1, "open_high": 1, "open_low": 0}
         rows: list[tuple[str, list[Fields]]] = [
-            ("another format", [{"format": 2}, *SOUND, END]),
-            ("a line is cut", [first, *SOUND]),
+            ("of format 3", [{"format": 2}, *SOUND, END]),
+            ("ends too early", [first, *SOUND]),
             ("this is no change", [first, {**SOUND[0], "path": "srv"}, SOUND[1], END]),
             ("this is no change", [first, {**SOUND[0], "kind": "x"}, SOUND[1], END]),
-            ("another standing", [first, {**SOUND[0], "same_as": "old"}, SOUND[1], END]),
+            ("this is no change", [first, {**SOUND[0], "new": {"Size": []}}, SOUND[1], END]),
+            ("not in the order", [first, *reversed(SOUND), END]),
+            ("the end does not fit", [first, {**SOUND[0], "same_as": "old"}, SOUND[1], END]),
             ("the end does not fit", [first, SOUND[0], END]),
             ("the end does not fit", [first, *SOUND, few]),
             ("the end does not fit", [first, *SOUND, {**END, "open": 5}]),
@@ -145,5 +153,5 @@ class KeptLinesTest(ModuleTest):
         for data in (b"", whole[:-1], whole[: len(whole) // 2], whole.replace(b"{", b"[", 1)):
             with self.subTest(data=data), self.assertRaises(Refused):
                 read_bytes(data)
-        with mock.patch.object(kept_lines, "LINE_LIMIT", 100), self.assertRaises(Refused):
+        with mock.patch.object(reader, "LINE_LIMIT", 100), self.assertRaises(Refused):
             read_bytes(whole)

@@ -32,7 +32,7 @@ def fields_of(letters: str = SAME, **sides: Dict[str, Any]) -> Dict[str, Any]:
 def weighed(scales: Scales, fields: Dict[str, Any]) -> Weighed:
     line = json.dumps(fields).encode()
     path = PATH.encode()
-    return scales.weighed(Outline(fields["kind"], path, None, key_of_path(path), line), 7)
+    return scales.weighed(Outline(fields["kind"], path, None, key_of_path(path), line), fields, 7)
 
 
 class WeighingTest(ModuleTest):

@@ -135,9 +135,8 @@ class Scales:
         self.severity = Severity()
         self.known: Dict[object, Known] = {}
 
-    def weighed(self, outline: Outline, line_at: int) -> Weighed:
-        """A change by its line, which begins there."""
-        fields = DECODE(outline.line.decode())
+    def weighed(self, outline: Outline, fields: Fields, line_at: int) -> Weighed:
+        """A change by its line, which has this object, and begins there."""
         known = self._known(fields, len(outline.line))
         weight = self.severity.weight(outline.path, known.held)
         return Weighed(

@@ -11,7 +11,7 @@ from collections.abc import Iterable, Sequence
 
 from aide_compare.base.words import SIDES
 from aide_compare.changes.table import Row, Table
-from aide_compare.changes.weighing import Scales
+from aide_compare.changes.weighing import DECODE, Scales
 from aide_compare.hosts.reported import SharedChange
 from aide_compare.lines.attributes import FORMS
 from aide_compare.lines.change import Fields
@@ -73,9 +73,10 @@ class Fleet:
         self.table.do(FOUND)
         self.table.do(INDEX)
 
-    def add(self, host: int, outline: Outline, fields: Fields) -> None:
+    def add(self, host: int, outline: Outline) -> None:
         """Takes a change of the host with this number."""
-        weighed = self.scales.weighed(outline, 0)
+        fields = DECODE(outline.line.decode())
+        weighed = self.scales.weighed(outline, fields, 0)
         fields = differing(fields)
         own = OWN
         if fields.get("type") == "Directory":

@@ -9,14 +9,12 @@ from contextlib import closing
 
 from aide_compare.base.ending import Fault, Status, reason
 from aide_compare.base.escapes import shown
-from aide_compare.base.files import open_regular
-from aide_compare.base.directories import closed_after
+from aide_compare.base.files import BLOCK, open_regular
 from aide_compare.base.words import age_in_words
 from aide_compare.compare.state import State, read_state
 from aide_compare.hosts.kept_lines import KeptLines
 from aide_compare.hosts.reported import CUT, UNREADABLE, WHOLE, Host
 from aide_compare.hosts.store import LINES, HostDirectory, check_name
-from aide_compare.lines.change import Fields
 from aide_compare.lines.reader import Outline, Refused
 
 # What a disk says of a place that is damaged, and a file system of the network of a file that is
@@ -65,16 +63,16 @@ class KeptChanges:
         self.report = UNREADABLE
         self.listed = 0
 
-    def __iter__(self) -> Iterator[tuple[Outline, Fields]]:
+    def __iter__(self) -> Iterator[Outline]:
         try:
-            with closed_after(open_regular(self.path)) as descriptor:
-                lines = KeptLines(descriptor)
-                for change in lines:
-                    self.listed = lines.listed
+            with open(open_regular(self.path), "rb", BLOCK) as file:
+                lines = KeptLines(file)
+                for change in lines.outlines():
+                    self.listed += 1
                     yield change
                 if lines.told == self.told:  # Otherwise they are the lines of another run.
                     self.report = CUT
-                    if lines.listed == lines.told:
+                    if self.listed == lines.told:
                         self.report = WHOLE
         except (Fault, Refused):
             pass
@@ -96,7 +94,7 @@ def read_host(
     store: str,
     seconds: int,
     max_age: int,
-    take: Callable[[Outline, Fields], None] | None = None,
+    take: Callable[[Outline], None] | None = None,
 ) -> Host:
     """Reads what a store keeps of a host, and gives each change to `take`, if there is one. No run
     is at work on the host then."""
@@ -112,8 +110,8 @@ def read_host(
         if take is None or not host.differs:
             return host
         kept = KeptChanges(directory, host)
-        for outline, fields in kept:
-            take(outline, fields)
+        for outline in kept:
+            take(outline)
         return host._replace(report=kept.report, listed=kept.listed)
 
 

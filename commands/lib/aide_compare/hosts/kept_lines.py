@@ -8,19 +8,16 @@ no flood hides all of a kind.
 """
 from __future__ import annotations
 
-import json
-import os
+import re
 from collections.abc import Iterator
-from typing import BinaryIO
 
 from aide_compare.base.ending import Fault, Status, write_blocks
-from aide_compare.base.files import BLOCK
-from aide_compare.base.paths import key_of_path
+from aide_compare.base.words import KINDS
 from aide_compare.changes.judged import Judged
 from aide_compare.changes.table import ORDER
 from aide_compare.compare.comparison import Comparison
-from aide_compare.lines.change import Counts, Fields, change_of
-from aide_compare.lines.reader import ENCODE, LINE_LIMIT, ODD, Outline, Refused, reader_over
+from aide_compare.lines.change import Counts, Fields, Standing
+from aide_compare.lines.reader import ENCODE, ODD, Reader, Refused, reader_over
 from aide_compare.show.digest import rooms_of
 
 FORMAT = 3
@@ -69,52 +66,22 @@ def write_kept(target: int, comparison: Comparison, limit: int) -> Counts | None
     return judged.counts
 
 
-class KeptLines:
-    """The changes that were kept of a host, each with the object of its line; after the last one
-    `told` says how many there were that are not silent. What cannot be read is a Refused."""
+class KeptLines(Reader):
+    """The changes that were kept of a host; after the last one `told` says how many there were that
+    are not silent. What cannot be read is a Refused."""
 
-    def __init__(self, descriptor: int) -> None:
-        self.file: BinaryIO = open(os.dup(descriptor), "rb", BLOCK)
-        self.file.seek(0)
-        self.listed = 0
-        self.told = 0
-        if self._object_of(self._line()).get("format") != FORMAT:
-            raise Refused(1, "another format")
+    format = FORMAT
+    outline = re.compile(b"(?!)")  # A disk may have damaged a value, so the whole line is read.
+    told = 0
 
-    def __iter__(self) -> Iterator[tuple[Outline, Fields]]:
-        while True:
-            line = self._line()
-            fields = self._object_of(line)
-            if "end" in fields:
-                self._take_end(fields)
-                return
-            try:
-                change = change_of(fields)
-            except ODD:
-                raise Refused(0, "this is no change") from None
-            if change.silent:
-                raise Refused(0, "a change of another standing")
-            self.listed += 1
-            yield Outline(change.kind, change.path, None, key_of_path(change.path), line), fields
-
-    def _take_end(self, fields: Fields) -> None:
+    def _read_end(self, fields: Fields) -> None:
+        listed = sum(self._counted[kind] for kind in KINDS)
         try:
             counts = Counts(**{name: fields[name] for name in Counts._fields})
-            is_sound = counts.fits(counts.total) and fields["listed"] == self.listed <= counts.told
+            is_sound = counts.fits(counts.total) and fields["listed"] == listed <= counts.told
         except ODD:
             is_sound = False
-        if not is_sound or self.file.read(1):
-            raise Refused(0, "the end does not fit the lines before it")
+        has_silent = Standing.SAME in self._counted or Standing.LEFT_OUT in self._counted
+        if not is_sound or has_silent or self.file.read(1):
+            raise Refused(self.number, "the end does not fit the lines before it")
         self.told = counts.told
-
-    def _line(self) -> bytes:
-        return self.file.readline(LINE_LIMIT)
-
-    def _object_of(self, line: bytes) -> Fields:
-        try:
-            fields = json.loads(line)
-        except (ValueError, RecursionError):
-            fields = None
-        if not line.endswith(b"\n") or not isinstance(fields, dict):
-            raise Refused(0, "a line is cut or damaged")
-        return fields

@@ -110,6 +110,9 @@ class Reader:
     """The lines of a file: the `summary` of the first one; each change as an outline, once; then
     what the last line says, as `end`, its object, and `counts`."""
 
+    format = FORMAT
+    outline = OUTLINE
+
     def __init__(self, file: BinaryIO) -> None:
         self.file = file
         self.number = 0
@@ -117,8 +120,8 @@ class Reader:
         self.counts = NOTHING_COUNTED
         self._counted: Counter[object] = Counter()  # By kind, and by account.
         self.summary = self._object_of(self._line("nothing was given: was nothing compared?"))
-        if self.summary.get("format") != FORMAT:
-            raise Refused(self.number, f"the first line is the summary, of format {FORMAT}")
+        if self.summary.get("format") != self.format:
+            raise Refused(self.number, f"the first line is the summary, of format {self.format}")
 
     def outlines(self) -> Iterator[Outline]:
         """The changes as far as the beginnings of most lines say them: their values are not looked
@@ -126,7 +129,7 @@ class Reader:
         last = b""
         while True:
             line = self._line()
-            match = OUTLINE.match(line)
+            match = self.outline.match(line)
             if match is not None and line.endswith(b"}\n"):
                 kind = KINDS_BY_BYTES[match.group(1)]
                 path = match.group(2)
