@@ -47,11 +47,11 @@ class ShowTest(CommandTest):
         self.write("one.db", COLUMNS + entry + END)
         other = entry.replace(b" 1000 5 MTcwMDAwMDAwMA==", b" 1000 6 MTcwMDAwMDAwMQ==")
         self.write("two.db", COLUMNS + other.replace(acl, b"0") + END)
-        answer = self.call(TOOL, "/x", "one.db", "two.db", environment={"TZ": "UTC"})
+        answer = self.call(TOOL, "/x", "one.db", "two.db", environment={"TZ": "Asia/Kathmandu"})
         wanted = [
             "open high changed File: /x",
             "    size       5 -> 6",
-            "    mtime      2023-11-14 22:13:20 +0000 -> 2023-11-14 22:13:21 +0000",
+            "    mtime      2023-11-14T22:13:20Z -> 2023-11-14T22:13:21Z",
             "    ACL        user::rw-, group::r--, other::r-- -> none",
         ]
         self.assertEqual(answer.output.decode().splitlines(), wanted)

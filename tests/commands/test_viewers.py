@@ -142,7 +142,6 @@ class ViewersTest(ProgramTest):
 
     def test_texts(self) -> None:
         texts.try_table(self)
-        texts.try_zones(new_seed(), self)
 
     @slow
     def test_depth(self) -> None:

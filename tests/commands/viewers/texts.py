@@ -3,21 +3,17 @@ what real tools printed."""
 from __future__ import annotations
 
 import contextlib
-import os
-import random
 import signal
 import stat
-import time
 import unicodedata
 import unittest
 from collections.abc import Iterator
 from typing import Any
-from unittest import mock
 
 from tests.commands.viewers.expected import without_same_rights
 
 from aide_compare.lines.change import Value
-from aide_compare.lines.decoded import decoded, time_text
+from aide_compare.lines.decoded import decoded
 
 TYPES = {
     "File": stat.S_IFREG,
@@ -159,57 +155,6 @@ def try_table(test: unittest.TestCase) -> None:
             long = decoded(label, value, "File") or ""
             test.assertLessEqual(len(long), MOST_CHARACTERS)
             test.assertTrue(long.isprintable(), long[:100])
-
-
-ZONES = (
-    "UTC Europe/Berlin America/St_Johns Asia/Kathmandu Australia/Lord_Howe Africa/Monrovia".split()
-)
-FIRST, LAST = -62135596800, 253402300799
-
-
-def local_text(seconds: int) -> str | None:
-    """A time of the years 1 to 9999 as strftime has it."""
-    try:
-        local = time.localtime(seconds)
-    except (OverflowError, ValueError, OSError):
-        return None
-    if not 1 <= local.tm_year <= 9999:
-        return None
-    return f"{local.tm_year:04}-" + time.strftime("%m-%d %H:%M:%S %z", local)
-
-
-@contextlib.contextmanager
-def zone_of(zone: str) -> Iterator[None]:
-    """Runs in another zone, and without the texts that were kept of the one before."""
-    try:
-        with mock.patch.dict(os.environ, TZ=zone):
-            time.tzset()
-            time_text.cache_clear()
-            yield
-    finally:
-        time.tzset()
-        time_text.cache_clear()
-
-
-def changes_of_clock(pick: random.Random) -> list[int]:
-    """A moment near each change of this zone's clock from 1800 to 2040."""
-    hours = [hour * 3600 for hour in range(-1490000, 620000, 6)]
-    offsets = [time.localtime(seconds).tm_gmtoff for seconds in hours]
-    pairs = zip(hours, offsets, offsets[1:])
-    return [seconds + pick.randrange(21600) for seconds, one, other in pairs if one != other]
-
-
-def try_zones(seed: int, test: unittest.TestCase) -> None:
-    """Times of all centuries, and around each change of the clock, in zones with odd offsets."""
-    pick = random.Random(f"zones {seed}")
-    times = [pick.randrange(FIRST - 10, LAST + 10) for _ in range(2000)]
-    times += [FIRST - 1, FIRST, -1, 0, LAST, LAST + 1, 2**63]
-    for zone in ZONES:
-        with test.subTest(zone=zone, seed=seed), zone_of(zone):
-            changes = changes_of_clock(pick)
-            around = [each + step for each in changes for step in range(-22000, 22000, 450)]
-            wrong = [each for each in times + around if time_text(each) != local_text(each)]
-            test.assertEqual([(each, time_text(each)) for each in wrong[:5]], [])
 
 
 def wanted_text(label: str, value: Any, kind: str | None) -> str | None:

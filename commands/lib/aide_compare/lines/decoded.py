@@ -9,10 +9,9 @@ from __future__ import annotations
 import base64
 import re
 import stat
-import time
 from contextlib import suppress
 from functools import lru_cache
-from typing import AbstractSet as Set, Dict, Iterator, List, NamedTuple, Optional, Sequence, Tuple
+from typing import Dict, List, NamedTuple, Optional, Sequence, Tuple
 
 from aide_compare.base.escapes import shown
 from aide_compare.base.paths import unescaped
@@ -21,8 +20,6 @@ from aide_compare.lines.change import Change, Texts, Value, Values
 # A text for people has at most so many characters; a longer one is cut, and ends with "...".
 MAX_TEXT = 4000
 MAX_NAME = 300
-# Texts of values up to this length are kept, since most files of a system share theirs.
-MAX_KEPT = 600
 # The types of files in words, as reports name them.
 TYPES = {
     "File": stat.S_IFREG,
@@ -54,13 +51,6 @@ x=2000000 F=40000000 N=10000000 P=20000000 V=100000 m=400
 FLAGS = [(pair[0], int(pair[2:], 16)) for pair in _FLAG_TABLE.split()]
 KNOWN_FLAGS = sum(bit for _, bit in FLAGS)
 CAPABILITIES_TEXT = rb"[a-z0-9_,=+ -]+"
-TIMES = ("Atime", "Mtime", "Ctime")
-# The attributes that are texts of their own in a database.
-ENCODED = ("ACL", "XAttrs", "SELinux", "E2FSAttrs", "Caps")
-# The attributes that may have texts for people.
-NOTED = frozenset((*ENCODED, *TIMES, "Perm"))
-# Those of which programs get texts too: any of them can make one of a time.
-NOTED_BESIDE_TIMES = NOTED.difference(TIMES)
 
 
 class SideTexts(NamedTuple):
@@ -191,18 +181,6 @@ def capabilities_text(value: bytes) -> Optional[str]:
     return _cut(text.decode())
 
 
-@lru_cache(maxsize=8192)
-def time_text(seconds: int) -> Optional[str]:
-    """A time in the zone of this host (or of TZ), as AIDE prints it: 2026-11-25 07:00:00 +0100.
-    None if it has no such date."""
-    with suppress(OverflowError, ValueError, OSError):
-        local = time.localtime(seconds)
-        if 1 <= local.tm_year <= 9999:
-            # %Y of a year before 1000 has fewer digits on some systems.
-            return f"{local.tm_year:04d}-" + time.strftime("%m-%d %H:%M:%S %z", local)
-    return None
-
-
 @lru_cache(maxsize=4096)
 def mode_text(digits: bytes, kind: Optional[str] = None) -> Optional[str]:
     """Permissions such as 4755 as ls prints them: -rwsr-xr-x, without the first letter if the type
@@ -224,26 +202,16 @@ _DECODERS = {
 }
 
 
-@lru_cache(maxsize=2048)
-def _kept_text(label: str, value: bytes) -> Optional[str]:
-    return _DECODERS[label](value)
-
-
 def decoded(label: str, value: Value, kind: Optional[str] = None) -> Optional[str]:
     """The value of an attribute (by its name in the details) of a file of this kind for people,
     None if nothing is to decode."""
-    if label in TIMES:
-        return time_text(value) if type(value) is int else None
     if value is None or isinstance(value, int):
         return None
     if label == "Perm":
         return mode_text(exact_bytes(value), kind)
     if label not in _DECODERS:
         return None
-    data = exact_bytes(value)
-    if len(data) <= MAX_KEPT:
-        return _kept_text(label, data) or None
-    return _DECODERS[label](data) or None
+    return _DECODERS[label](exact_bytes(value)) or None
 
 
 def kinds_of(change: Change) -> Sequence[Optional[str]]:
@@ -257,28 +225,18 @@ def kinds_of(change: Change) -> Sequence[Optional[str]]:
     return kinds
 
 
-def _side_texts(values: Values, kind: Optional[str], labels: Set[str]) -> Iterator[Tuple[str, str]]:
-    """Each label of a side that has a text, and the text."""
-    for label, value in values.items():
-        if label in labels:
-            text = decoded(label, value, kind)
-            if text is not None:
-                yield label, text
+def _side_texts(values: Values, kind: Optional[str]) -> Dict[str, str]:
+    """The texts of a side by their labels."""
+    texts = {label: decoded(label, value, kind) for label, value in values.items()}
+    return {label: text for label, text in texts.items() if text is not None}
 
 
-def texts_of(change: Change, labels: Set[str] = NOTED) -> SideTexts:
-    """The texts of the values of both sides that have these labels."""
-    old_kind, new_kind = kinds_of(change)
-    old: Dict[str, str] = dict(_side_texts(change.old, old_kind, labels))
-    new: Dict[str, str] = dict(_side_texts(change.new, new_kind, labels))
-    return _that_differ(SideTexts(old, new), change.sides)
-
-
-def _that_differ(texts: SideTexts, sides: Sequence[Values]) -> SideTexts:
-    """If two values have one text, which would hide the change, neither has it."""
-    old, new = sides
-    for label in list(texts.old):
-        if texts.old[label] == texts.new.get(label) and old[label] != new[label]:
-            del texts.old[label]
-            del texts.new[label]
-    return texts
+def texts_of(change: Change) -> SideTexts:
+    """The texts of the values of both sides. If two values have one text, which would hide the
+    change, neither has it."""
+    old, new = (_side_texts(*side) for side in zip(change.sides, kinds_of(change)))
+    for label in list(old):
+        if old[label] == new.get(label) and change.old[label] != change.new[label]:
+            del old[label]
+            del new[label]
+    return SideTexts(old, new)

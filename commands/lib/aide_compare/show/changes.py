@@ -5,6 +5,7 @@ import json
 from typing import TYPE_CHECKING, Collection, Iterator, NamedTuple, Optional
 
 from aide_compare.base.escapes import guarded, shown
+from aide_compare.base.words import date_of
 from aide_compare.lines.attributes import FORMS, STRENGTH, word_of
 from aide_compare.lines.change import Change, Value, change_of
 from aide_compare.lines.decoded import texts_of
@@ -19,12 +20,13 @@ if TYPE_CHECKING:
 MAX_VALUE = 200
 
 
-def _shown(value: Value, text: Optional[str]) -> Optional[str]:
+def _shown(label: str, value: Value, text: Optional[str]) -> Optional[str]:
     """A value for people; None if there is none."""
     if text is not None:
         return guarded(text[:MAX_VALUE])
     if isinstance(value, int):
-        return guarded(str(value)[:MAX_VALUE])
+        text = date_of(value) if FORMS[label] == "time" else str(value)
+        return text[:MAX_VALUE]
     if value is None:
         return None
     return shown(value, MAX_VALUE)
@@ -62,8 +64,8 @@ def values_in(change: Change, others: Collection[str] = ()) -> Iterator[Row]:
             continue
         if label == "Type" and change.kind != "changed":
             continue
-        old = _shown(change.old.get(label), texts.old.get(label))
-        new = _shown(change.new.get(label), texts.new.get(label))
+        old = _shown(label, change.old.get(label), texts.old.get(label))
+        new = _shown(label, change.new.get(label), texts.new.get(label))
         yield Row(label, old, new)
 
 

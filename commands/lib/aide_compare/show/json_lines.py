@@ -8,7 +8,7 @@ from typing import TYPE_CHECKING, Iterator, Optional, Tuple
 
 from aide_compare.base.words import SIDES, TRUSTED_SIDES
 from aide_compare.lines.change import Fields, Standing, change_of
-from aide_compare.lines.decoded import NOTED_BESIDE_TIMES, texts_of
+from aide_compare.lines.decoded import texts_of
 from aide_compare.lines.reader import ENCODE, HEX, Reader
 
 if TYPE_CHECKING:
@@ -58,7 +58,7 @@ def marked_lines(reader: Reader, judged: Optional[Judged]) -> Iterator[Tuple[byt
 
 def text_members(fields: Fields) -> Fields:
     """The texts of a change for people as members, but for those of times."""
-    texts = texts_of(change_of(fields), NOTED_BESIDE_TIMES)
+    texts = texts_of(change_of(fields))
     sides = zip(SIDES, texts)
     return {f"{side}_text": side_texts for side, side_texts in sides if side_texts}
 

@@ -25,7 +25,7 @@ from aide_compare.lines.change import (
     Values,
     change_of,
 )
-from aide_compare.lines.decoded import NOTED_BESIDE_TIMES, texts_of
+from aide_compare.lines.decoded import texts_of
 from aide_compare.lines.reader import ENCODE, Reader
 from aide_compare.show.json_lines import marked_lines
 from aide_compare.show.brief import brief_of
@@ -137,7 +137,7 @@ def row_of(change: Change, marks: Fields) -> List[Fields]:
     names = {*change.old, *change.new}
     labels = " ".join(label for label in FORMS if label in names)
     head = {"kind": change.kind, "path": shown(change.path), "labels": labels, **marks}
-    texts = texts_of(change, NOTED_BESIDE_TIMES)
+    texts = texts_of(change)
     values = {"old": values_of(change.old, texts.old), "new": values_of(change.new, texts.new)}
     return [head, values]
 
