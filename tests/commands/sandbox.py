@@ -242,8 +242,8 @@ class CommandTest(ScratchTest):
     def terminal(
         self, tool: str, *words: str, environment: dict[str, str] | None = None, **streams: Any
     ) -> Terminal:
-        """A tool in this folder on a terminal, without colours unless its environment says so."""
-        environment = {"TERM": "xterm", "NO_COLOR": "1", **(environment or {})}
+        """A tool in this folder on a terminal."""
+        environment = {"TERM": "xterm", **(environment or {})}
         return Terminal(
             self.command(tool, *words),
             cwd=self.root,

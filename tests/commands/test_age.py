@@ -52,7 +52,7 @@ class AgeTest(CommandTest):
         self.too_old("years.db", age="730 days", limit="180000")
         names = [self.path(name) for name in ("old.db", "late.db")]
         self.write("etc/defaults", f"--databases {' '.join(names)}\n")
-        self.too_old("late.db", "--color", "never", name=names[1])
+        self.too_old("late.db", "-v", name=names[1])
         self.write_aged("minute.db", NEW, 100)
         answer = self.call(TOOL, "--max-age", "60", "old.db", "minute.db")
         self.assertEqual(answer.status, 18, answer)

@@ -15,7 +15,6 @@ EVERY = SUBCOMMANDS + ["hosts " + word for word in HOSTS]
 COMMON = [
     b"\n  -q, --quiet ",
     b"\n  -v, --verbose ",
-    b"\n  --color {auto,always,never}",
     b"\n  --version ",
 ]
 LINES_PROGRAM = b"program of lines: "
@@ -58,7 +57,6 @@ class FrontTest(CommandTest):
             given = self.answered(0, parts, b"", TOOL, *word.split(), "--help")
             self.assertIn(b" [OPTIONS]", given.output.splitlines()[0])
             self.answered(0, given.output, b"", TOOL, "help", *word.split())
-            self.refused(15, b"'odd'", TOOL, *word.split(), "--color", "odd")
         for words in (["hosts"], ["hosts", "-h"], ["help", "hosts"]):
             wanted = [b" hosts %s " % word.encode() for word in HOSTS]
             self.answered(0, wanted, b"", TOOL, *words)
@@ -79,9 +77,7 @@ class FrontTest(CommandTest):
         self.call(TOOL, "--state", "state", "old.db", "old.db.gz")
         self.answered(0, b"", b"", TOOL, *status, "-q")
         self.call(TOOL, "--state", "state", "old.db", "new.db")
-        plain = self.answered(0, b"Last comparison: ", b"", TOOL, *status, "-q").output
-        coloured = [b"\033[1mLast comparison: ", b"\033[0m\n" + plain.partition(b"\n")[2]]
-        self.answered(0, coloured, b"", TOOL, *status, "--color", "always")
+        self.answered(0, b"Last comparison: ", b"", TOOL, *status, "-q")
 
     def test_hosts(self) -> None:
         """Names of hosts on standard input, and a report that is not quiet."""
@@ -89,8 +85,6 @@ class FrontTest(CommandTest):
         compare = (TOOL, "hosts", "compare", *store, "--no-fetch", "-")
         told = b"nohost 18 nothing was fetched yet"
         self.answered(18, told, b"", *compare, text=b"nohost\n")
-        red = self.call(*compare, "--color", "always", text=b"nohost\n").output
-        self.assertTrue(red.startswith(b"\033[1;31mnohost 18 "), red)
         self.write("hosts", "nohost\n")
         text = self.call(TOOL, "hosts", "report", *store, "hosts").output
         self.answered(18, text, b"", TOOL, "hosts", "report", "-q", *store, "hosts")

@@ -77,12 +77,6 @@ def option(name: str, help: str, metavar: str = "", **more: Any) -> Any:
 
 QUIET = Option("--quiet", "print only why it failed", letter="-q")
 VERBOSE = Option("--verbose", "print which step is done, and how long it took", letter="-v")
-COLOR = Option(
-    "--color",
-    "use colours in what people read (on a terminal)",
-    choices=("auto", "always", "never"),
-    default="auto",
-)
 Asks = TypeVar("Asks", bound="Asked")
 
 
@@ -91,7 +85,6 @@ class Asked:
 
     is_quiet: bool = field(QUIET)
     is_verbose: bool = field(VERBOSE)
-    color: str = field(COLOR)
 
     def __init__(self, **values: object) -> None:
         vars(self).update(values)

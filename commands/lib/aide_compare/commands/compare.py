@@ -22,7 +22,7 @@ from aide_compare.commands.compare_task import (
 from aide_compare.compare.comparison import Comparison
 from aide_compare.compare.outputs import STDOUT, Notes, StreamOutput, descriptor_of
 from aide_compare.compare.report import report_of
-from aide_compare.show.told import coloured, no_difference, told_of, wants_colours
+from aide_compare.show.told import no_difference, told_of
 
 if TYPE_CHECKING:
     from aide_compare.changes.judged import Judged
@@ -85,8 +85,7 @@ class Printer:
         if self.form == BRIEF and judged is not None:
             from aide_compare.show.brief import brief_of
 
-            text = brief_of(judged)
-            return [coloured(text) if wants_colours(self.request.color) else text]
+            return [brief_of(judged)]
         return blocks_of(report_of(comparison))
 
     def _notes(self, comparison: Comparison, judged: Optional[Judged]) -> Iterable[bytes]:

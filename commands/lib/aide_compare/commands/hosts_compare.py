@@ -131,7 +131,6 @@ def results_beside(canary: str, hosts: Sequence[str], settings: Settings) -> Ite
 def compare_all(request: HostsCompareRequest, settings: Settings, hosts: Sequence[str]) -> int:
     """Prints a line for each host and the summary; returns the greatest status."""
     is_quiet = request.is_quiet
-    color = request.color
     if request.canary:
         all_results = results_beside(request.canary, hosts, settings)
     else:
@@ -140,7 +139,7 @@ def compare_all(request: HostsCompareRequest, settings: Settings, hosts: Sequenc
     for result in all_results:
         found.append((result.status, result.has_changes and not result.is_alarm))
         if result.is_alarm or not is_quiet:
-            tell(result.line(color))
+            tell(result.line())
     worst = max((status for status, _ in found), default=0)
     if not is_quiet or worst:
         counts = HostCounts.of(found)

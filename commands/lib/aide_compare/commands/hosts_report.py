@@ -38,7 +38,6 @@ from aide_compare.hosts.reported import CUT, UNREADABLE, HostCounts, Summary
 from aide_compare.lines.reader import ENCODE
 from aide_compare.mail.message import build, clean, within
 from aide_compare.mail.sending import Way, alert, deliver, way_out
-from aide_compare.show.told import severity_in_colour
 
 NAME = "aide-compare hosts report"
 MAX_NAMES = 20  # Of the hosts of a change, for people.
@@ -131,11 +130,6 @@ class HostsReport:
         for row in self.fleet.table.rows(order="place"):
             yield ENCODE(self.fleet.shared(row, len(self.hosts)).fields).encode() + b"\n"
 
-    def text(self, color: str) -> Iterator[bytes]:
-        """Yields the lines of the whole text, with severities in colours."""
-        for line in report_lines(self.report()):
-            yield encoded(severity_in_colour(line, color))
-
     def brief(self) -> Iterator[bytes]:
         """Yields the lines of the short text."""
         return map(encoded, short_lines(self.report()))
@@ -167,7 +161,7 @@ class HostsReport:
 
         count_quiet_run(f"{request.store}/report.quiet", request.weekly, silent, send)
 
-    def parts(self, form: str, color: str) -> Iterable[bytes]:
+    def parts(self, form: str) -> Iterable[bytes]:
         """The bytes of the report in a format."""
         if form == "brief":
             return self.brief()
@@ -175,7 +169,7 @@ class HostsReport:
             return self.json()
         if form == "page":
             return page(self.report())
-        return self.text(color)
+        return map(encoded, report_lines(self.report()))
 
 
 def encoded(line: str) -> bytes:
@@ -203,5 +197,5 @@ def main(arguments: Sequence[str]) -> int:
     if request.address:
         report.send(request, request.address)
     elif report.is_alarm or not request.is_quiet:
-        write_blocks(1, report.parts(request.format or "text", request.color))
+        write_blocks(1, report.parts(request.format or "text"))
     return report.worst

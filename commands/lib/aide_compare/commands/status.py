@@ -31,7 +31,6 @@ from aide_compare.base.words import SEVERITIES, minute_of
 from aide_compare.compare.state import DAILY, State, read_state
 from aide_compare.show.check import Answer, Level, answer_of
 from aide_compare.show.result import known_counts, result_text, time_text
-from aide_compare.show.told import BOLD, in_colour
 
 NAME = "aide-compare status"
 DESCRIPTION = """\
@@ -167,9 +166,8 @@ def write_text(request: StatusRequest) -> int:
     is_young = state.age is not None and state.age <= request.max_age
     if request.is_quiet and state.status == 0 and is_young:
         return Status.OK
-    first, *others = paragraph(state, request.max_age)
-    tell(in_colour(guarded(first)[:MAX_LINE], BOLD, request.color))
-    tell(*(guarded(line)[:MAX_LINE] for line in [*others, *mail_lines(request)]))
+    lines = [*paragraph(state, request.max_age), *mail_lines(request)]
+    tell(*(guarded(line)[:MAX_LINE] for line in lines))
     return Status.OK
 
 

@@ -20,7 +20,6 @@ from aide_compare.hosts.fetching import fetch
 from aide_compare.hosts.host_comparison import Settings, compare
 from aide_compare.hosts.hosts_read import words_of
 from aide_compare.hosts.store import MAX_MEMORY, HostDirectory
-from aide_compare.show.told import RED, YELLOW, in_colour
 
 MAX_TEXT = 300
 GRACE = 5  # Seconds after those of a host, so that a transfer ends by itself.
@@ -40,14 +39,9 @@ class HostResult(NamedTuple):
         """Whether somebody has to read the line."""
         return self.status != 0
 
-    def line(self, color: str) -> str:
+    def line(self) -> str:
         name = shown(self.host, 200).replace(" ", "\\040")
-        line = f"{name} {self.status} {self.text}"
-        if self.status > 7:
-            return in_colour(line, RED, color)
-        if self.is_alarm:
-            return in_colour(line, YELLOW, color)
-        return line
+        return f"{name} {self.status} {self.text}"
 
 
 def without_name(host: str, text: str) -> str:

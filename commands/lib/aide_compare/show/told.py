@@ -1,10 +1,7 @@
-"""What commands tell of a comparison beside its report, and colours for what people read on a
-terminal. They are around words of ours only; names are escaped by then, so that a terminal obeys no
-bytes but those that are put in here."""
+"""What commands tell of a comparison beside its report."""
 from __future__ import annotations
 
 import os
-import re
 from collections.abc import Iterable, Iterator
 from typing import TYPE_CHECKING
 
@@ -14,51 +11,6 @@ from aide_compare.base.words import counted
 
 if TYPE_CHECKING:
     from aide_compare.compare.comparison import Comparison
-
-BOLD = "\033[1m"
-RED = "\033[1;31m"
-YELLOW = "\033[33m"
-PLAIN = "\033[0m"
-COLOURS = {"high": RED, "medium": YELLOW}
-HOSTS_SEVERITY = "(high|medium)(?= on )"
-TITLE = "(?m)^(?:Open, severity (high|medium|low)|Recorded.*):$"
-
-
-def wants_colours(choice: str) -> bool:
-    """Whether standard output gets colours: on a terminal, unless the environment says no (see
-    no-color.org)."""
-    if choice != "auto":
-        return choice == "always"
-    if os.environ.get("NO_COLOR") or os.environ.get("TERM") == "dumb":
-        return False
-    return os.isatty(1)
-
-
-def in_colour(line: str, colour: str, choice: str) -> str:
-    """A line in a colour, where that is wanted."""
-    if not wants_colours(choice):
-        return line
-    return colour + line + PLAIN
-
-
-def severity_in_colour(line: str, choice: str) -> str:
-    """A line of the report of many hosts, with the severity that it begins with in a colour."""
-    match = re.match(HOSTS_SEVERITY, line)
-    if match is None:
-        return line
-    severity: str = match.group(1)
-    return in_colour(severity, COLOURS[severity], choice) + line[match.end() :]
-
-
-def _coloured_title(match: re.Match[str]) -> str:
-    return COLOURS.get(match.group(1), BOLD) + match.group() + PLAIN
-
-
-def coloured(text: bytes) -> bytes:
-    """The bytes of what people read first, with its first line and its titles in colours."""
-    first, _, rest = text.decode("utf-8", "surrogateescape").partition("\n")
-    rest = re.sub(TITLE, _coloured_title, rest)
-    return f"{BOLD}{first}{PLAIN}\n{rest}".encode("utf-8", "surrogateescape")
 
 
 def _left_out(comparison: Comparison) -> Iterator[str]:
