@@ -99,29 +99,33 @@ class TextsTest(MailTest):
         self.assertEqual(subject(self.mail("--test", status=0)), SUBJECT + "test")
 
     def test_weekly(self) -> None:
-        """A heartbeat comes once on its day, counts the runs since the last one, and needs no
-        sound time of that one."""
+        """A heartbeat comes once on its day, or a week after the last one, and says what the last
+        comparison has found."""
         now = time.time()
         day, other = (time.strftime("%a", time.localtime(now + more)) for more in (0, 2 * 86400))
         words = ["old.db", "old.db.gz", "--state", "weekly.state", "--weekly"]
         for _ in range(2):
             self.assertIsNone(self.mail(*words, other, status=0), "on another day")
         message = self.mail(*words, day, status=0)
-        self.assertEqual(subject(message), SUBJECT + "no difference in 3 runs")
+        self.assertEqual(subject(message), SUBJECT + "nothing to read")
+        self.assertEqual(body(message), b"The last comparison: no difference.\n")
         self.assertIsNone(self.mail(*words, day, status=0), "only once a day")
-        for label, number in (
-            ("no time at all", 10**30),
-            ("later than now, by a clock that was ahead", int(now) + 86400),
+        kept = self.path("weekly.state.quiet")
+        for label, its_day, seconds in (
+            ("a week ago", other, now - 7 * 86400 - 60),
+            ("later than now, by a clock that was ahead", day, now + 86400),
         ):
-            self.write("weekly.state.quiet", "7 %d 0\n" % number)
-            message = self.mail(*words, day, status=0)
-            self.assertEqual(subject(message), SUBJECT + "no difference in 8 runs", label)
-            kept = int(self.read("weekly.state.quiet").split()[1])
-            self.assertLess(abs(kept - time.time()), 60, "the time is that of now")
-        os.remove(self.path("weekly.state.quiet"))
-        os.mkdir(self.path("weekly.state.quiet"))
-        said = b"weekly.state.quiet: it is a directory"
-        self.fails("a directory in the place of the number", (*words, day), said)
+            os.utime(kept, (seconds, seconds))
+            message = self.mail(*words, its_day, status=0)
+            self.assertEqual(subject(message), SUBJECT + "nothing to read", label)
+            self.assertLess(abs(os.stat(kept).st_mtime - time.time()), 60, "the time of now")
+        os.utime(kept, (now - 6 * 86400,) * 2)
+        self.assertIsNone(self.mail(*words, other, status=0), "less than a week ago")
+        os.remove(kept)
+        os.mkdir(kept)
+        os.utime(kept, (0, 0))
+        said = b"the file of the heartbeat is a directory"
+        self.fails("a directory in the place of the file", (*words, day), said)
 
     def test_pages(self) -> None:
         message = self.mail("--attach-page", "old.db", "new.db")

@@ -205,7 +205,7 @@ class QuietTest(RecipesTest):
         self.put_databases(of_texts(texts), of_texts(texts))
         self.set_up()
         mail = self.mail_of(self.unit_commands())
-        self.assertTrue(mail is None or "no difference in" in mail or "quiet runs" in mail, mail)
+        self.assertTrue(mail is None or "nothing to read" in mail, mail)
         sums = {path: hashlib.md5(later[path].encode()).hexdigest() for path in UPGRADED}
         self.put_packages("3.0.17-1", sums)
         self.put_databases(of_texts(texts), of_texts(later))

@@ -27,7 +27,7 @@ from aide_compare.base.options import (
 from aide_compare.base.parser import read
 from aide_compare.base.program import FRONT, find_installed
 from aide_compare.base.words import counted
-from aide_compare.commands.mail import count_quiet_run
+from aide_compare.commands.mail import send_heartbeat
 from aide_compare.hosts.canary import notes_of
 from aide_compare.hosts.fleet import Fleet
 from aide_compare.hosts.hosts_page import page
@@ -143,7 +143,7 @@ class HostsReport:
             raise
         if not self.is_alarm:
             if request.weekly:
-                self._count_quiet_run(request, address, way)
+                self._send_heartbeat(request.weekly, f"{request.store}/report.quiet", address, way)
             return
         attached = None
         if request.has_page:
@@ -151,15 +151,15 @@ class HostsReport:
         text = clean(b"".join(self.brief()))
         deliver(way, build(address, headline(self.summary), text, attached))
 
-    def _count_quiet_run(self, request: ReportRequest, address: str, way: Way) -> None:
-        """Counts a run without an alarm, and sends a heartbeat if one is due."""
-        silent = sum(host.counts.total for host in self.hosts if host.is_silent and host.counts)
-        hosts = counted(self.summary.counts.hosts, "host")
+    def _send_heartbeat(self, day: str, path: str, address: str, way: Way) -> None:
+        """Sends a heartbeat if one is due."""
+        counts = self.summary.counts
 
         def send(subject: str, text: str) -> None:
-            deliver(way, build(address, f"aide on {hosts}: {subject}", clean(text)))
+            title = f"aide on {counted(counts.hosts, 'host')}: {subject}"
+            deliver(way, build(address, title, clean(text)))
 
-        count_quiet_run(f"{request.store}/report.quiet", request.weekly, silent, send)
+        send_heartbeat(path, day, f"{counts.headline()}, {counts.others()}\n", send)
 
     def parts(self, form: str) -> Iterable[bytes]:
         """The bytes of the report in a format."""

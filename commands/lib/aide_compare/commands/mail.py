@@ -11,13 +11,10 @@ from functools import partial
 from typing import NamedTuple
 
 from aide_compare.base.ending import Fault, Status
-from aide_compare.base.escapes import shown
-from aide_compare.base.files import read_file
 from aide_compare.base.kinds import UNIT_NAME
 from aide_compare.base.options import DAYS
 from aide_compare.base.replacement import Replacement
 from aide_compare.base.rights import become_owner, give_up
-from aide_compare.base.words import counted
 from aide_compare.commands.compare_task import Row, Task, keep_failure
 from aide_compare.commands.mail_message import ColumnsBefore, message_of
 from aide_compare.commands.mail_request import MailRequest, request_of
@@ -26,8 +23,8 @@ from aide_compare.compare.state import State, read_state
 from aide_compare.compare.work import failed_comparison
 from aide_compare.mail.message import build, clean, host_name, subject_of
 from aide_compare.mail.sending import Way, alert, deliver, send_all, way_in, way_out
+from aide_compare.show.result import result_text
 
-QUIET_RUNS = re.compile(b"([0-9]+) ([0-9]+) ([0-9]+)\n")
 WEEK = 7 * 86400
 TEST_TEXT = "This is a test of aide-compare mail. Mails of this host arrive.\n"
 
@@ -44,60 +41,19 @@ def short_mail(request: MailRequest, subject: str, text: str) -> bytes:
     return build(request.address, f"aide on {host_name()}: {subject}", clean(text))
 
 
-class QuietRuns(NamedTuple):
-    """How many runs have raised no alarm, when the last heartbeat was sent, and how many silent
-    changes these runs have found."""
-
-    runs: int
-    sent: int
-    silent: int
-
-    def is_due(self, day: str | None, now: int) -> bool:
-        """Whether a heartbeat is sent now: on the day, or a week after the last one."""
-        today = time.localtime(now)
-        is_new_day = today[:3] != time.localtime(self.sent)[:3]
-        is_late = self.sent > 0 and now - self.sent > WEEK
-        return is_late or (DAYS[today.tm_wday] == day and is_new_day)
-
-    def heartbeat(self) -> tuple[str, str]:
-        """The subject and the text of a mail that says that nothing had to be said."""
-        if not self.silent:
-            text = f"{counted(self.runs, 'comparison')} found no difference.\n"
-            return f"no difference in {counted(self.runs, 'run')}", text
-        changes = counted(self.silent, "change")
-        text = f"In {counted(self.runs, 'comparison')} each change was silent: {changes}.\n"
-        return f"{counted(self.runs, 'quiet run')}, {changes} silent", text
-
-
-def quiet_runs_in(path: str, now: int) -> QuietRuns:
-    """What a file says of the runs before; none if there is no such file."""
-    match = None
-    with suppress(Fault):
-        match = QUIET_RUNS.fullmatch(read_file(path, 100))
-    if match is None:
-        return QuietRuns(0, 0, 0)
-    runs, sent, silent = map(int, match.groups())
-    if sent > now:  # A clock that was ahead must not silence the signs of life.
-        sent = 0
-    return QuietRuns(runs, sent, silent)
-
-
-def count_quiet_run(
-    path: str, day: str | None, silent: int, send: Callable[[str, str], object]
-) -> None:
-    """Counts a run that raises no alarm, and its silent changes, in a file. A heartbeat has both
-    counts, and they begin anew."""
-    now = int(time.time())
-    quiet = quiet_runs_in(path, now)
-    quiet = quiet._replace(runs=quiet.runs + 1, silent=quiet.silent + silent)
-    if os.path.isdir(path):
-        text = f"cannot write the number of quiet runs in {shown(path)}: it is a directory"
-        raise Fault(Status.DEVICE, text)
-    with closing(Replacement(path, what="the number of quiet runs in").begin()) as file:
-        if quiet.is_due(day, now):
-            send(*quiet.heartbeat())
-            quiet = QuietRuns(0, now, 0)
-        file.commit(b"%d %d %d\n" % quiet)
+def send_heartbeat(path: str, day: str, text: str, send: Callable[[str, str], object]) -> None:
+    """Sends a sign of life on its day, or a week after the last one. The time of an empty file says
+    when that was."""
+    today = time.localtime()
+    sent = 0.0
+    with suppress(FileNotFoundError):
+        sent = os.lstat(path).st_mtime
+    is_late = sent > 0 and time.time() - sent > WEEK
+    is_new_day = today[:3] != time.localtime(sent)[:3]
+    if is_late or (is_new_day and DAYS[today.tm_wday] == day):
+        with closing(Replacement(path, what="the file of the heartbeat").begin()) as file:
+            send("nothing to read", text)
+            file.commit(b"")
 
 
 class Outcome(NamedTuple):
@@ -144,11 +100,11 @@ def compare_and_mail(request: MailRequest) -> int:
     if message:
         deliver(way, message)
     elif request.weekly and request.state:
-        silent = state.standings.silent if state.standings else 0
-        count_quiet_run(
+        text = f"The last comparison: {result_text(state)}.\n"
+        send_heartbeat(
             f"{request.state}.quiet",
             request.weekly,
-            silent,
+            text,
             lambda subject, text: deliver(way, short_mail(request, subject, text)),
         )
     if request.sent_is_success:
