@@ -125,7 +125,8 @@ class TextsTest(MailTest):
         os.mkdir(kept)
         os.utime(kept, (0, 0))
         said = b"the file of the heartbeat is a directory"
-        self.fails("a directory in the place of the file", (*words, day), said)
+        self.expect("a directory in its place", call(self, *words, day), 15, b"", said)
+        self.assertIsNone(sent(self))
 
     def test_pages(self) -> None:
         message = self.mail("--attach-page", "old.db", "new.db")

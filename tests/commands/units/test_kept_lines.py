@@ -4,6 +4,7 @@ from __future__ import annotations
 
 import io
 import json
+import os
 from typing import Any
 from unittest import mock
 
@@ -12,7 +13,6 @@ from tests.commands.units.streams import fields_of, line_of, objects_in, stream_
 
 from aide_compare.base.files import in_memory
 from aide_compare.changes.judged import Judged
-from aide_compare.compare import outputs
 from aide_compare.hosts import kept_lines
 from aide_compare.hosts.kept_lines import SHARES, KeptLines, write_kept
 from aide_compare.lines.change import Fields
@@ -112,7 +112,7 @@ class KeptLinesTest(ModuleTest):
         counts = write_kept(target, comparison, ROOM)
         assert counts is not None
         self.assertEqual(counts.open, 2)
-        self.assertEqual(read_bytes(outputs.whole(target)), ["/srv/a", "/srv/b"])
+        self.assertEqual(read_bytes(os.pread(target, ROOM, 0)), ["/srv/a", "/srv/b"])
         lines.is_cut = True
         self.assertIsNone(write_kept(target, comparison, ROOM))
         lines.is_cut = False

@@ -6,14 +6,14 @@ import os
 
 from tests.commands.units.calls import PlacesTest
 
-from aide_compare.base.files import in_memory
+from aide_compare.base.files import blocks_of, in_memory
 from aide_compare.compare import outputs
 
 
 def put(path: str, text: bytes, mode: int = 0o600) -> None:
     descriptor = in_memory(text)
     try:
-        outputs.open_output(path, "it", mode).commit_copy(descriptor)
+        outputs.open_output(path, "it", mode)(blocks_of(descriptor))
     finally:
         os.close(descriptor)
 

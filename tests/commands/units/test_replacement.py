@@ -24,7 +24,7 @@ def replaced(path: str, *texts: bytes) -> Replaced:
     its folder has."""
     new = replacement.Replacement(path, what="the file").begin()
     for text in texts:
-        new.commit(text)
+        new.commit([text])
     new.close()
     found = os.lstat(path)
     with open(path, "rb") as file:
@@ -202,7 +202,7 @@ class ReplacementTest(PlacesTest):
         new = replacement.Replacement(path + "/state").begin()
         waiting = (os.listdir(path), held() - before)
         self.assertEqual(waiting, ([], 2 if is_nameless else 1), "what waits has no name")
-        new.commit(b"x")
+        new.commit([b"x"])
         self.assertEqual(held() - before, 1, "what waited is put in place")
         new.close()
         begun(path + "/state")

@@ -106,13 +106,9 @@ class Replacement:
         self._do(self._reserve)
         return self
 
-    def commit(self, data: bytes) -> None:
+    def commit(self, blocks: Iterable[bytes]) -> None:
         """Puts bytes in the place of the file, on the disk before this returns."""
-        self._do(lambda directory: self._put(directory, [data]))
-
-    def commit_copy(self, source: int) -> None:
-        """The same of the bytes of an open file."""
-        self._do(lambda directory: self._put(directory, blocks_of(source)))
+        self._do(lambda directory: self._put(directory, blocks))
 
     def close(self) -> None:
         for part in self.waiting:
@@ -168,13 +164,13 @@ def replace(
 ) -> None:
     """Puts these bytes in the place of a file, as Replacement does it."""
     with closing(Replacement(path, mode, what, makes_directory)) as file:
-        file.commit(data)
+        file.commit([data])
 
 
 def replace_by_copy(path: str, source: int, mode: int, what: str) -> None:
     """The same by the bytes of an open file. No directory is made for it."""
     with closing(Replacement(path, mode, what, makes_directory=False)) as file:
-        file.commit_copy(source)
+        file.commit(blocks_of(source))
 
 
 @cache

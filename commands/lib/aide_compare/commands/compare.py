@@ -20,7 +20,7 @@ from aide_compare.commands.compare_task import (
     with_defaults,
 )
 from aide_compare.compare.comparison import Comparison
-from aide_compare.compare.outputs import STDOUT, Notes, StreamOutput, descriptor_of
+from aide_compare.compare.outputs import STDOUT, descriptor_of, notes, stream_output
 from aide_compare.compare.report import report_of
 from aide_compare.show.told import no_difference, told_of
 
@@ -61,10 +61,10 @@ class Printer:
 
     def task(self) -> Task:
         """The comparison that prints so."""
-        before = [Row(Notes(), self._notes)]
+        before = [Row(notes, self._notes)]
         if self.is_printed:
-            before.append(Row(StreamOutput(STDOUT, "cannot write the report"), self._printed))
-        after = [Row(Notes(), self._failure, of_failure=True)]
+            before.append(Row(stream_output(STDOUT, "cannot write the report"), self._printed))
+        after = [Row(notes, self._failure, of_failure=True)]
         judges = self.form != REPORT or self.request.outputs or self.request.state
         return Task(self.request, before, after, bool(judges))
 

@@ -1,13 +1,13 @@
 """A comparison as the options of a command line ask for it, and what is written of it."""
 from __future__ import annotations
 
-from collections.abc import Mapping, Sequence
+from collections.abc import Iterable, Mapping, Sequence
 from contextlib import suppress
 from typing import TYPE_CHECKING, Optional
 
 from aide_compare.base.ending import Fault, Status, write_blocks
 from aide_compare.base.escapes import shown
-from aide_compare.base.files import nameless
+from aide_compare.base.files import blocks_of, nameless
 from aide_compare.base.kinds import pattern
 from aide_compare.base.options import (
     AFTER,
@@ -33,9 +33,10 @@ from aide_compare.base.rights import become_owner, rights_hint
 from aide_compare.commands.defaults import ADVICE, comparison_defaults, exclusions_of
 from aide_compare.compare.comparison import Comparison, Request
 from aide_compare.compare.configuration import NONE
-from aide_compare.compare.outputs import FileOutput, Output, descriptor_of, open_output
+from aide_compare.compare.outputs import Output, descriptor_of, file_output, open_output
 from aide_compare.compare.unpack import Opened
-from aide_compare.compare.work import FAILURES, Work, failed_comparison
+from aide_compare.compare.work import FAILURES, compare_opened, failed_comparison
+from aide_compare.compare.work import open_databases
 from aide_compare.lines.change import Counts
 from aide_compare.show.outputs import OUTPUTS
 
@@ -160,8 +161,8 @@ def keep_failure(path: Optional[str], error: Exception) -> None:
         return
     with suppress(Fault, OSError):
         become_owner(path)
-        place = FileOutput(path, "the state file", ANYBODY_READS)
-        place.commit(failed_comparison(error).state().text())
+        place = file_output(path, "the state file", ANYBODY_READS)
+        place([failed_comparison(error).state().text()])
 
 
 class Row:
@@ -173,24 +174,17 @@ class Row:
         self.place = place
         self.make = make
         self.of_failure = of_failure
-        self.data = b""
-        self.fd = -1
+        self.blocks: Iterable[bytes] = ()
 
     def write(self, comparison: Comparison, judged: Optional[Judged]) -> None:
         """Makes the bytes."""
         blocks = self.make(comparison, judged)
         if self.of_failure:
-            self.data = b"".join(blocks)
+            self.blocks = [b"".join(blocks)]
         else:
-            self.fd = nameless()
-            write_blocks(self.fd, blocks)
-
-    def put(self) -> None:
-        """Hands the bytes to the place."""
-        if self.of_failure:
-            self.place.commit(self.data)
-        else:
-            self.place.commit_copy(self.fd)
+            target = nameless()
+            write_blocks(target, blocks)
+            self.blocks = blocks_of(target)
 
 
 def output_rows(request: CompareRequest) -> list[Row]:
@@ -229,23 +223,23 @@ class Task:
     def carry_out(self) -> Comparison:
         """Compares, judges, and writes what is wanted. Root opens the databases, and then becomes
         for good the user in whose directories the baseline and the outputs are."""
-        work = Work(self.request)
+        comparison = Comparison(self.request)
         opened: Sequence[Opened] = ()
-        failure = None
         try:
-            opened = work.open_databases()
+            opened = open_databases(comparison)
         except FAILURES as error:
-            failure = error
+            comparison.fail(error)
         user = None
         if not self.options.user:
             user = self._become_owner(self.request.old)
         self._open_outputs(user)
-        if failure is not None:
-            return self._end(self._made(work.failed(failure)))
-        comparison = work.compare(opened)
-        if user is not None:
-            comparison = comparison.explained(rights_hint(user))
-        return self._end(self._made(comparison))
+        if not comparison.has_failed:
+            compare_opened(comparison, opened)
+            if user is not None:
+                comparison.explain(rights_hint(user))
+        self._make(comparison)
+        self._put(comparison)
+        return comparison
 
     def _become_owner(self, baseline: str) -> Optional[int]:
         try:
@@ -264,7 +258,7 @@ class Task:
         state_file = None
         try:
             if self.options.state:
-                state_file = FileOutput(self.options.state, "the state file", ANYBODY_READS)
+                state_file = file_output(self.options.state, "the state file", ANYBODY_READS)
             rows = [*self.before, *output_rows(self.options)]
         except Fault as fault:
             if user is not None:
@@ -275,36 +269,36 @@ class Task:
             rows.append(Row(state_file, state_bytes, of_failure=True))
         self.rows = [*rows, *self.after]
 
-    def _made(self, comparison: Comparison) -> Comparison:
+    def _make(self, comparison: Comparison) -> None:
         """Judges a comparison, and makes all outputs. What fails meanwhile has ended it."""
         judged = None
         try:
             if self.judges and comparison.status == 0:
-                comparison = comparison._replace(standings=Counts())
+                comparison.standings = Counts()
             elif self.judges and comparison.differs:
                 # The modules for it are more than all others together.
                 from aide_compare.show.judgement import judge
 
-                comparison, judged = judge(comparison)
+                judged = judge(comparison)
             for row in self.rows:
                 if not (row.of_failure or comparison.has_failed):
                     row.write(comparison, judged)
         except FAILURES as error:
-            comparison = comparison.failed(error)
+            comparison.fail(error)
         for row in self.rows:
             if row.of_failure:
                 row.write(comparison, judged)
-        return comparison
 
-    def _end(self, comparison: Comparison) -> Comparison:
+    def _put(self, comparison: Comparison) -> None:
         """Hands the outputs to their places, in their order. If that is not possible, nothing was
         compared."""
         try:
             for row in self.rows:
                 if row.of_failure or not comparison.has_failed:
-                    row.put()
+                    row.place(row.blocks)
         except FAILURES as error:
             if comparison.has_failed:
                 raise
-            return self._end(self._made(comparison.failed(error)))
-        return comparison
+            comparison.fail(error)
+            self._make(comparison)
+            self._put(comparison)

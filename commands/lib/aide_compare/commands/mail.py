@@ -18,7 +18,6 @@ from aide_compare.base.rights import become_owner, give_up
 from aide_compare.commands.compare_task import Row, Task, keep_failure
 from aide_compare.commands.mail_message import ColumnsBefore, message_of
 from aide_compare.commands.mail_request import MailRequest, request_of
-from aide_compare.compare.outputs import Kept
 from aide_compare.compare.state import State, read_state
 from aide_compare.compare.work import failed_comparison
 from aide_compare.mail.message import build, clean, host_name, subject_of
@@ -53,7 +52,7 @@ def send_heartbeat(path: str, day: str, text: str, send: Callable[[str, str], ob
     if is_late or (is_new_day and DAYS[today.tm_wday] == day):
         with closing(Replacement(path, what="the file of the heartbeat").begin()) as file:
             send("nothing to read", text)
-            file.commit(b"")
+            file.commit(())
 
 
 class Outcome(NamedTuple):
@@ -66,13 +65,13 @@ class Outcome(NamedTuple):
 def compared(request: MailRequest) -> Outcome:
     """Compares, and puts the mail together."""
     before = columns_before(request)
-    mail = Kept()
+    mail: list[bytes] = []
     try:
         if isinstance(request.comparison, Fault):
             raise request.comparison
-        row = Row(mail, partial(message_of, request, before), of_failure=True)
+        row = Row(mail.extend, partial(message_of, request, before), of_failure=True)
         ended = Task(request.comparison, after=[row]).carry_out()
-        return Outcome(ended.state(), mail.data)
+        return Outcome(ended.state(), b"".join(mail))
     except (Fault, MemoryError, OSError) as error:
         keep_failure(request.state, error)
         comparison = failed_comparison(error)

@@ -1,6 +1,7 @@
 """What is compared, and what comes out of it, as values."""
 from __future__ import annotations
 
+import time
 from collections.abc import Mapping, Sequence
 from types import MappingProxyType
 from typing import TYPE_CHECKING, Any, NamedTuple
@@ -23,8 +24,6 @@ MAX_ERROR = 5000
 MAX_NAME = 4000
 
 NO_COPIES: Mapping[str, Copy] = MappingProxyType({})
-# By side, the SHA-256 of what the program has read, in base 16.
-Digests = Mapping[str, str]
 
 
 class Request(NamedTuple):
@@ -52,38 +51,35 @@ class Refusal(Fault):
         self.hints = hints
 
 
-class Lines:
+class Lines(NamedTuple):
     """The lines of the program, in a private file, and what the last of them says."""
 
-    def __init__(self, fd: int, size: int, is_cut: bool, end: EndCounts, digests: Digests) -> None:
-        self.fd = fd
-        self.size = size  # Of all lines; the file has no more than a request allows.
-        self.is_cut = is_cut
-        self.end = end
-        self.digests = digests
+    fd: int
+    is_cut: bool  # The file has no more bytes than a request allows.
+    end: EndCounts
 
 
-class Comparison(NamedTuple):
-    """What came out of a comparison."""
+class Comparison:
+    """A comparison: what is known of it so far, and then what came out of it."""
 
-    request: Request
-    texts: Texts  # What the program has read beside the databases.
-    time: int  # When it ended.
-    status: int
-    fault: Fault | None  # Why nothing was compared, unless the program says it.
-    errors: bytes  # The error lines of the program.
-    hints: Sequence[str]  # What explains them.
-    notes: Sequence[str]  # What was not compared, or not as it was meant.
-    doubts: Sequence[str]  # What was not judged.
-    warnings: Sequence[str]  # What is mailed even if nothing differs.
-    # By side, as far as it is known:
-    copies: Mapping[str, Copy]
-    compared: Mapping[str, int]  # The descriptors of what the program has read.
-    skipped: Mapping[str, Sequence[str]]  # Columns.
-    lines: Lines | None  # None if nothing was compared.
-    standings: Counts | None = None  # None if nobody has judged the changes.
-    # How many changes the lines of the list leave out, by their numbers.
-    left_out: Mapping[int, int] = MappingProxyType({})
+    def __init__(self, request: Request) -> None:
+        self.request = request
+        self.texts = Texts(b"", b"")  # What the program reads beside the databases.
+        self.time = 0  # When it ended.
+        self.status = 0
+        self.fault: Fault | None = None  # Why nothing was compared, unless the program says it.
+        self.errors = b""  # The error lines of the program.
+        self.hints: Sequence[str] = ()  # What explains them.
+        self.notes: list[str] = []  # What was not compared, or not as it was meant.
+        self.doubts: list[str] = []  # What was not judged.
+        self.warnings: list[str] = []  # What is mailed even if nothing differs.
+        # By side, as far as it is known:
+        self.copies: dict[str, Copy] = {}
+        self.skipped: Mapping[str, Sequence[str]] = {}  # Columns.
+        self.lines: Lines | None = None  # None if nothing was compared.
+        self.standings: Counts | None = None  # None if nobody has judged the changes.
+        # How many changes the lines of the list leave out, by their numbers.
+        self.left_out: Mapping[int, int] = {}
 
     @property
     def told_status(self) -> int:
@@ -106,24 +102,22 @@ class Comparison(NamedTuple):
             raise Fault(Status.DEVICE, "nothing is known of the changes")
         return self.lines
 
-    def failed(self, error: BaseException) -> Comparison:
-        """The same comparison, which something has ended."""
+    def fail(self, error: BaseException) -> None:
+        """Something has ended it."""
+        self.time = int(time.time())
         if isinstance(error, Refusal):
-            answer = error.answer
-            return self._replace(status=answer.status, errors=answer.errors, hints=error.hints)
-        fault = fault_of(error)
-        return self._replace(fault=fault, status=int(fault.status))
+            self.status = error.answer.status
+            self.errors = error.answer.errors
+            self.hints = error.hints
+        else:
+            self.fault = fault_of(error)
+            self.status = int(self.fault.status)
 
-    def explained(self, hint: str) -> Comparison:
-        """The same comparison with one more hint to the fault that has ended it, if one has."""
+    def explain(self, hint: str) -> None:
+        """Adds a hint to the fault that has ended it, if one has."""
         fault = self.fault
-        if fault is None or isinstance(fault, ReaderGone):
-            return self
-        return self._replace(fault=Fault(fault.status, fault.text, *fault.more, hint))
-
-    def doubtful(self, doubt: str) -> Comparison:
-        """The same comparison, of which something could not be judged."""
-        return self._replace(doubts=(*self.doubts, doubt))
+        if fault is not None and not isinstance(fault, ReaderGone):
+            self.fault = Fault(fault.status, fault.text, *fault.more, hint)
 
     def state(self) -> State:
         """The State that says it."""

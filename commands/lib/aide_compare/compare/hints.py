@@ -94,7 +94,7 @@ def hints_of(errors: bytes, texts: Texts, path: str, copies: Mapping[str, Copy])
     return [name, *_configuration_hints(number, text)]
 
 
-def skipped_in(errors: bytes, databases: Mapping[str, int]) -> dict[str, list[str]]:
+def skipped_in(errors: bytes, copies: Mapping[str, Copy]) -> dict[str, list[str]]:
     """By side the names of the columns that the program says it skipped; their numbers where the
     first lines name none."""
     skipped = re.findall(SKIPPED, errors)
@@ -102,7 +102,7 @@ def skipped_in(errors: bytes, databases: Mapping[str, int]) -> dict[str, list[st
     for side in ("old", "new"):
         numbers = [int(number) for which, number in skipped if which.decode() == side]
         if numbers:
-            names[side] = _column_names(databases[side], numbers)
+            names[side] = _column_names(copies[side].fd, numbers)
     return names
 
 

@@ -36,7 +36,7 @@ def report_of(comparison: Comparison) -> int:
 
     program = find_installed(PROGRAM)
     texts = comparison.texts
-    pair = {side: comparison.compared[side] for side in SIDES}
+    pair = {side: comparison.copies[side].fd for side in SIDES}
     answer = ask_for_changes(program, texts, pair, take)
     if answer.status > 7:
         path = comparison.request.configuration

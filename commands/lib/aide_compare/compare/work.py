@@ -13,10 +13,10 @@ from aide_compare.base.files import nameless
 from aide_compare.base.program import LINES, Answer, Drain, Tail, find_installed
 from aide_compare.base.words import SIDES, TRUSTED_SIDES, age_in_words, counted, words_of_side
 from aide_compare.compare.asking import Settings, ask_for_lines, odd_answer, settings_of
-from aide_compare.compare.comparison import Comparison, Digests, Lines, Refusal, Request
+from aide_compare.compare.comparison import Comparison, Lines, Refusal, Request
 from aide_compare.compare.configuration import Texts, configuration_in
 from aide_compare.compare.hints import column_notes, equal_notes, hints_of, order_notes, skipped_in
-from aide_compare.compare.unpack import Copy, Opened, copy_opened, open_database
+from aide_compare.compare.unpack import Opened, copy_opened, open_database
 from aide_compare.lines.reader import ODD, end_of
 
 MAX_CLOCKS_DIFFER = 600
@@ -28,146 +28,104 @@ END_BYTES = 1 << 12  # The last line has nothing but digests, columns and counts
 FAILURES = (Fault, MemoryError, OSError)
 
 
-class Work:
-    """A comparison that is at work: what is known of it so far.
+def open_databases(comparison: Comparison) -> Sequence[Opened]:
+    """The databases, opened, unless there are copies already; a Refusal or a Fault if they cannot
+    be compared. The comparison itself may be done with the rights of another user."""
+    request = comparison.request
+    config = configuration_in(request.configuration)
+    comparison.texts = Texts(config, os.fsencode(request.after))
+    if request.copies:
+        return ()
+    names = (request.old, request.new)
+    opened = [open_database(*each) for each in zip(SIDES, names)]
+    check_age(opened[1], request.max_age)
+    opened += [open_database(*each) for each in zip(TRUSTED_SIDES, request.trusted)]
+    refuse_one_file(opened)
+    return opened
 
-    First the databases are opened, then compared, which may be done with the rights of another
-    user; what ends it in between is made of an exception by `failed`.
-    """
 
-    def __init__(self, request: Request) -> None:
-        self.request = request
-        self.texts = Texts(b"", b"")
-        self.answer = Answer(0, b"")
-        self.notes: list[str] = []
-        self.warnings: list[str] = []
-        self.copies: dict[str, Copy] = {}
-        self.compared: dict[str, int] = {}
-
-    def open_databases(self) -> Sequence[Opened]:
-        """Both databases, opened, unless there are copies already; a Refusal or a Fault if they
-        cannot be compared."""
-        request = self.request
-        config = configuration_in(request.configuration)
-        self.texts = Texts(config, os.fsencode(request.after))
-        if request.copies:
-            return ()
-        names = (request.old, request.new)
-        opened = [open_database(*each) for each in zip(SIDES, names)]
-        check_age(opened[1], request.max_age)
-        opened += [open_database(*each) for each in zip(TRUSTED_SIDES, request.trusted)]
-        refuse_one_file(opened)
-        return opened
-
-    def compare(self, opened: Sequence[Opened]) -> Comparison:
-        """Compares the databases. What ends it is told by the status and the fault, never by an
-        exception."""
-        try:
-            self._copy(opened)
-            return self._ended(self._lines())
-        except FAILURES as error:
-            return self.failed(error)
-
-    def failed(self, error: BaseException) -> Comparison:
-        """The comparison, which an exception has ended."""
-        return self._comparison(None).failed(error)
-
-    def _refusal(self) -> Fault:
-        """The program has refused the texts, the list or the databases."""
-        exclusions = self.request.exclusions
-        fault = exclusions.fault_in(self.answer.errors) if exclusions else None
-        if fault is not None:
-            self.answer = Answer(fault.status, b"")  # The fault says it, with the file.
-            return fault
-        path = self.request.configuration
-        hints = hints_of(self.answer.errors, self.texts, path, self.copies)
-        return Refusal(self.answer, hints)
-
-    def _ended(self, lines: Lines) -> Comparison:
-        skipped = skipped_in(self.answer.errors, self.compared)
-        self.notes += [*column_notes(skipped), *order_notes(self.copies)]
-        self.notes += equal_notes(self.copies)
-        if any(self.texts) and lines.end.others == 0:
-            self.notes += ignored_notes(settings_of(self.texts))
-        return self._comparison(lines)._replace(skipped=skipped)
-
-    def _comparison(self, lines: Lines | None) -> Comparison:
-        return Comparison(
-            request=self.request,
-            texts=self.texts,
-            time=int(time.time()),
-            status=self.answer.status,
-            fault=None,
-            errors=self.answer.errors,
-            hints=(),
-            notes=self.notes,
-            doubts=(),
-            warnings=self.warnings,
-            copies=self.copies,
-            compared=self.compared,
-            skipped={},
-            lines=lines,
-        )
-
-    def _copy(self, opened: Sequence[Opened]) -> None:
-        """Makes private copies."""
+def compare_opened(comparison: Comparison, opened: Sequence[Opened]) -> None:
+    """Compares the databases. What ends it is told by the status and the fault, never by an
+    exception."""
+    try:
         for database in opened:
-            self.copies[database.side] = copy_opened(database, self.request.max_size)
-        self.copies.update(self.request.copies)
-        for side, copy in self.copies.items():
-            self.compared[side] = copy.fd
+            copy = copy_opened(database, comparison.request.max_size)
+            comparison.copies[database.side] = copy
+        comparison.copies.update(comparison.request.copies)
+        lines = read_lines(comparison)
+        skipped = skipped_in(comparison.errors, comparison.copies)
+        comparison.skipped = skipped
+        comparison.notes += [*column_notes(skipped), *order_notes(comparison.copies)]
+        comparison.notes += equal_notes(comparison.copies)
+        if any(comparison.texts) and lines.end.others == 0:
+            comparison.notes += ignored_notes(settings_of(comparison.texts))
+        comparison.lines = lines
+        comparison.time = int(time.time())
+    except FAILURES as error:
+        comparison.fail(error)
 
-    def _lines(self) -> Lines:
-        """The lines of aide_lines, of which those beyond a limit are only counted."""
-        target = nameless() if self.request.target is None else self.request.target
-        program = find_installed(LINES)
-        limit = max(self.request.max_report, MIN_LINES)
-        drain = Drain(limit, lambda data: write_all(target, data))
-        tail = Tail(END_BYTES)
 
-        def take(block: bytes) -> None:
-            drain.take(block)
-            tail.take(block)
+def refusal_of(comparison: Comparison, answer: Answer) -> Fault:
+    """The program has refused the texts, the list or the databases."""
+    exclusions = comparison.request.exclusions
+    fault = exclusions.fault_in(answer.errors) if exclusions else None
+    if fault is not None:
+        return fault  # It says it with the file.
+    path = comparison.request.configuration
+    return Refusal(answer, hints_of(answer.errors, comparison.texts, path, comparison.copies))
 
-        exclusions = self.request.exclusions
-        without = exclusions.text if exclusions else b""
-        answer = ask_for_lines(self.texts, self.compared, without, take)
-        self.answer = answer
-        if answer.status > 7:
-            raise self._refusal()
-        try:
-            fields = json.loads(tail.last_line())
-            end = end_of(fields)
-            digests = {side: str(fields[side]["sha256"]) for side in self.copies}
-        except ODD:
-            raise odd_answer(program, answer) from None
-        if end.status != answer.status:
-            raise odd_answer(program, answer)
-        self._keep_digests(digests)
-        if exclusions:
-            self.warnings += exclusions.warnings(self.copies["old"])
-        return Lines(target, drain.size, drain.is_cut, end, digests)
 
-    def _keep_digests(self, digests: Digests) -> None:
-        """The program has read what it has compared, so it knows the digests of whole databases."""
-        for side, copy in self.copies.items():
-            self.copies[side] = copy.with_digest(digests[side])
+def read_lines(comparison: Comparison) -> Lines:
+    """The lines of aide_lines, of which those beyond a limit are only counted."""
+    request = comparison.request
+    target = nameless() if request.target is None else request.target
+    drain = Drain(max(request.max_report, MIN_LINES), lambda data: write_all(target, data))
+    tail = Tail(END_BYTES)
+
+    def take(block: bytes) -> None:
+        drain.take(block)
+        tail.take(block)
+
+    exclusions = request.exclusions
+    without = exclusions.text if exclusions else b""
+    databases = {side: copy.fd for side, copy in comparison.copies.items()}
+    answer = ask_for_lines(comparison.texts, databases, without, take)
+    if answer.status > 7:
+        raise refusal_of(comparison, answer)
+    comparison.errors = answer.errors
+    try:
+        fields = json.loads(tail.last_line())
+        end = end_of(fields)
+        digests = {side: str(fields[side]["sha256"]) for side in databases}
+    except ODD:
+        raise odd_answer(find_installed(LINES), answer) from None
+    if end.status != answer.status:
+        raise odd_answer(find_installed(LINES), answer)
+    comparison.status = answer.status
+    # The program has read what it has compared, so it knows the digests of whole databases.
+    for side, copy in comparison.copies.items():
+        comparison.copies[side] = copy.with_digest(digests[side])
+    if exclusions:
+        comparison.warnings += exclusions.warnings(comparison.copies["old"])
+    return Lines(target, drain.is_cut, end)
 
 
 def compare(request: Request) -> Comparison:
     """Compares two databases. What ends it is told by the status and the fault, never by an
     exception."""
-    work = Work(request)
+    comparison = Comparison(request)
     try:
-        opened = work.open_databases()
+        compare_opened(comparison, open_databases(comparison))
     except FAILURES as error:
-        return work.failed(error)
-    return work.compare(opened)
+        comparison.fail(error)
+    return comparison
 
 
 def failed_comparison(error: BaseException) -> Comparison:
     """The comparison of a run that an exception has ended before it could begin."""
-    return Work(Request(old="", new="")).failed(error)
+    comparison = Comparison(Request(old="", new=""))
+    comparison.fail(error)
+    return comparison
 
 
 def ignored_notes(settings: Settings | None) -> Iterator[str]:

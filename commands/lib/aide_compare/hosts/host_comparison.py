@@ -70,15 +70,15 @@ def run_comparison(directory: HostDirectory, settings: Settings, part: NewFile) 
 
 def keep_findings(
     directory: HostDirectory, settings: Settings, comparison: Comparison
-) -> Comparison:
-    """Keeps the changes that are not silent. Returns the comparison with their standings."""
+) -> None:
+    """Keeps the changes that are not silent. The comparison gets their standings."""
     with closing(NewFile(directory.fd)) as part:
         limit = min(settings.max_kept, directory.room(settings.jobs))
-        standings = write_kept(part.fd, comparison, limit)
-        if standings is None:
-            return comparison.doubtful("the changes are too many to be judged")
-        part.put(LINES)
-        return comparison._replace(standings=standings)
+        comparison.standings = write_kept(part.fd, comparison, limit)
+        if comparison.standings:
+            part.put(LINES)
+        else:
+            comparison.doubts.append("the changes are too many to be judged")
 
 
 def age_fault(directory: HostDirectory, settings: Settings) -> str:
@@ -117,7 +117,7 @@ def keep_comparison(directory: HostDirectory, settings: Settings) -> State:
         comparison = run_comparison(directory, settings, part)
         directory.remove(LINES)
         if comparison.differs:
-            comparison = keep_findings(directory, settings, comparison)
+            keep_findings(directory, settings, comparison)
     state = comparison.state()
     errors = told_of(comparison)
     why = age_fault(directory, settings)
