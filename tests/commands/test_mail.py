@@ -62,22 +62,20 @@ class TextsTest(MailTest):
             self.assertEqual(subject(message), SUBJECT + COUNTS, words)
 
     def test_errors(self) -> None:
-        """What could not be compared is mailed, and so is what was typed wrong, which is also seen
-        at once. What names no reader of a mail is refused without one."""
-        for words, status in (
-            (["old.db", "missing"], 18),
-            (["old.db", "/dev/null"], 18),
-            (["--odd"], 15),
-            (["old.db", "new.db", "--max-age", "x"], 15),
-        ):
-            said = [b"aide-compare: ", b"try: aide-compare compare --help"] if status == 15 else []
-            self.expect("an error of %s" % words, call(self, *words), status, b"", said or b"")
+        """What could not be compared is mailed. What was typed wrong is refused without a mail, and
+        a unit or cron that has it says so itself; a fault of the defaults is mailed."""
+        for words, status in ((["old.db", "missing"], 18), (["old.db", "/dev/null"], 18)):
+            self.expect("an error of %s" % words, call(self, *words), status, b"", b"")
             message = sent(self)
             self.assertEqual(subject(message), SUBJECT + "no comparison (status %d)" % status)
             self.assertTrue(body(message).startswith(b"aide-compare"), words)
+        self.write("etc/defaults", "--odd\n")
+        self.assertEqual(call(self, "old.db", "new.db").status, 15)
+        self.assertIn("this option cannot be a default: --odd", words_of(body(sent(self))))
+        os.remove(self.path("etc/defaults"))
         addresses = ["--to"], ["--to", ""], ["--to", "a\nBcc: b"], ["--to", "-x"], ["--to", "é"]
         others = ["--mail-time", "x"], ["--weekly", "--", "x"], ["--state", "-"], ["--weekly=Foo"]
-        for words in (*addresses, *others):
+        for words in (*addresses, *others, ["--odd"], ["--max-age", "x"], ["more"]):
             answer = call(self, "old.db", "new.db", *words)
             self.assertEqual((answer.status, sent(self)), (15, None), (words, answer))
 

@@ -10,7 +10,8 @@ from tests.commands.units.calls import ModuleTest
 from aide_compare.base import parser, progress
 from aide_compare.base.options import COMPARISON_DEFAULTS, MAIL_DEFAULTS
 from aide_compare.base.parser import defaults_for
-from aide_compare.commands.mail_request import own_parser, request_of
+from aide_compare.commands.compare_task import CompareRequest
+from aide_compare.commands.mail_request import MailRequest, parser as parser_of_mail, request_of
 
 
 class MailRequestTest(ModuleTest):
@@ -20,12 +21,15 @@ class MailRequestTest(ModuleTest):
         place.start()
         self.addCleanup(place.stop)
 
-    def asks(self, words: str, **wanted: Any) -> Any:
-        """The comparison of some words, which ask for nothing else that no words ask for."""
+    def asks(self, words: str, **wanted: Any) -> MailRequest:
+        """What some words ask for. Of a mail they ask for nothing else that no words ask for."""
         request = request_of(words.split())
-        usual = request_of(["o", "n"]).but(comparison=request.comparison)
-        self.expect(words, request, usual.but(**wanted))
-        return request.comparison
+        usual = request_of(["o", "n"])
+        own = (MailRequest.rows().keys() - CompareRequest.rows().keys()) | {"has_options", "notes"}
+        for name in own | wanted.keys():
+            value = wanted.get(name, vars(usual)[name])
+            self.assertEqual(vars(request)[name], value, (words, name))
+        return request
 
     def test_words(self) -> None:
         rows: dict[str, dict[str, Any]] = {
@@ -50,8 +54,7 @@ class MailRequestTest(ModuleTest):
         self.assertEqual(got, (["--weekly", "n"], "u", "s"))
 
     def test_refused(self) -> None:
-        """What means nothing without another word, or with it. A word of the comparison that means
-        nothing is mailed."""
+        """What means nothing without another word, or with it."""
         for words, why in (
             ("--weekly Mon o n", "--weekly needs --state"),
             ("--state -", "--state: needs a file"),
@@ -63,9 +66,11 @@ class MailRequestTest(ModuleTest):
             ("--send-queue q --state s", "goes with none of"),
             ("--send-queue q o n", "no databases are compared"),
             ("--test o n", "no databases are compared"),
+            ("--odd", "unrecognized arguments: --odd"),
+            ("o n --max-age x", "--max-age"),
+            ("o", "name both databases"),
         ):
             self.fails(15, why, request_of, words.split())
-        self.assertIn("--odd", self.asks("--odd").text)
 
     def test_defaults(self) -> None:
         """The defaults come first. A fault in them costs no mail, and the mail says it."""
@@ -80,8 +85,7 @@ class MailRequestTest(ModuleTest):
             self.write("defaults", line.encode())
             request = request_of(["o", "n"])
             self.assertEqual(request.address, "root")
-            self.assertIn(why, request.comparison.text)  # type: ignore
-        self.assertIn("--not-known", request_of(["--not-known"]).comparison.text)  # type: ignore
+            self.assertIn(why, request.fault.text if request.fault else "")
 
     def test_machine(self) -> None:
         """The databases and the state of this machine are those of the defaults, and a list has
@@ -110,11 +114,11 @@ class MailRequestTest(ModuleTest):
                 self.fails(15, "defaults, line 4: ", defaults_for, options, ())
 
     def test_help(self) -> None:
-        words = " ".join(own_parser().format_help().split())
+        words = " ".join(parser_of_mail().format_help().split())
         for part in (
-            "aide-compare mail [OPTIONS] [ARGUMENTS of aide-compare]",
+            "aide-compare mail [OPTIONS] [OLD NEW]",
             "where the mail goes (root)",
+            "--state FILE",
             "kept in the queue.",
         ):
             self.assertIn(part, words)
-        self.assertNotIn("--state FILE", words, "it is the comparison's")

@@ -171,15 +171,6 @@ class Parser(argparse.ArgumentParser):
         progress.tell_steps(given.get("is_verbose", False))
         return given
 
-    def parse_own(self, arguments: Sequence[str]) -> tuple[Given, list[str]]:
-        """What the arguments give by the options of this parser, and all other words in their
-        order."""
-        cut = end_of_options(arguments)
-        args, others = self.parse_known_args(arguments[:cut])
-        given = vars(args)
-        progress.tell_steps(given.get("is_verbose", False))
-        return given, [*others, *arguments[cut:]]
-
     def _print_message(self, message: str, file: object = None) -> None:
         write_all(1, message.encode())
 

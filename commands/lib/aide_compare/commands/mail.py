@@ -67,10 +67,10 @@ def compared(request: MailRequest) -> Outcome:
     before = columns_before(request)
     mail: list[bytes] = []
     try:
-        if isinstance(request.comparison, Fault):
-            raise request.comparison
+        if request.fault:
+            raise request.fault
         row = Row(mail.extend, partial(message_of, request, before), of_failure=True)
-        ended = Task(request.comparison, after=[row]).carry_out()
+        ended = Task(request, after=[row]).carry_out()
         return Outcome(ended.state(), b"".join(mail))
     except (Fault, MemoryError, OSError) as error:
         keep_failure(request.state, error)
@@ -80,7 +80,7 @@ def compared(request: MailRequest) -> Outcome:
 
 def columns_before(request: MailRequest) -> ColumnsBefore:
     """The columns that the last run has not compared, as its state says."""
-    if isinstance(request.comparison, Fault) or not request.state:
+    if request.fault or not request.state:
         return None
     with suppress(Fault):
         return read_state(request.state).skipped
