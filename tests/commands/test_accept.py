@@ -21,8 +21,7 @@ class AcceptTest(AcceptingTest):
         return stat.S_IMODE(found.st_mode), found.st_uid, found.st_gid
 
     def test_digests(self) -> None:
-        wrapped = DIGEST[:32] + "\n" + DIGEST[32:]
-        for digest in (DIGEST, DIGEST.upper(), DIGEST[:16], DIGEST[:44], wrapped):
+        for digest in (DIGEST, DIGEST.upper(), DIGEST[:16], DIGEST[:44]):
             fresh(self)
             self.accepts(b"base/aide.db.new is the baseline now: base/aide.db\n", digest)
             self.assertEqual(contents(self), DONE, digest)

@@ -147,10 +147,6 @@ class ArchiveTest(ArchiveCase):
         kept = self.path(f"lists/{SITE}main_binary-amd64_Packages")
         os.rename(kept, kept + ".lz4")
         self.not_made(b"_Packages: No such file", sources=("lists", "archives"))
-        path = APTS_LISTS + f"{SITE}main_binary-amd64_Packages".encode()
-        del place.old.entries[path]
-        place.old.file(path + b".lz4")
-        self.applied(sources=("lists",), told=b"_Packages.lz4; /usr/lib/apt/apt-helper")
         os.rename(kept + ".lz4", kept)
         place.expect(self.applied(sources=("lists", "archives")), "trusted", TOOL)
 

@@ -90,8 +90,7 @@ class FrontTest(CommandTest):
         self.answered(18, text, b"", TOOL, "hosts", "report", "-q", *store, "hosts")
 
     def test_misspelt(self) -> None:
-        """What is no subcommand ends with 15, and so does what is no option, with the nearest one;
-        nothing is compared."""
+        """What is no subcommand ends with 15, and so does what is no option; nothing is compared."""
         for words, near in (
             ("jsno", b"try: aide-compare --help\n"),
             ("stauts --max-age=1h", b"try: aide-compare --help\n"),
@@ -100,9 +99,7 @@ class FrontTest(CommandTest):
             ("diff old.db new.db", b": aide-compare --help\n"),
             ("report old.db new.db", b": aide-compare --help\n"),
             ("hosts --nonsense", b": aide-compare hosts --help\n"),
-            ("--reprot old.db new.db", b"did you mean: --report\n"),
-            ("page --pgae x", b"did you mean: --page\n"),
-            ("status --fromat json", b"did you mean: --format\n"),
+            ("--reprot old.db new.db", b"unrecognized arguments: --reprot\n"),
             ("sort --zzzzzz", b"try: aide-compare sort --help\n"),
             ("a\033[31m", b"try: aide-compare compare --help\n"),
         ):

@@ -262,14 +262,8 @@ class SetupTest(CommandTest):
 
     def test_mails(self) -> None:
         """What keeps mails from their reader is named."""
-        exim = self.path("stubs/exim4")
-        os.rename(self.path("stubs/sendmail"), exim)
-        os.symlink(exim, self.path("stubs/sendmail"))
-        hint = b"Exim delivers it to /var/mail/mail: add a line to "
-        self.set_up("no alias", (), 0, b"look now whether it came.\n" + hint)
-        self.write("root/etc/aliases", "postmaster: root\nRoot : me\n")
-        answer = self.set_up("an alias", (), 0, b"look now whether it came.\n")
-        self.assertNotIn(hint, answer.output)
+        hint = b"look now whether it came.\nExim puts it into /var/mail/mail if /etc/aliases has"
+        self.set_up("mails for root", (), 0, hint)
         self.write(DAILY + "/mail/1.mail", "")
         waits = b"missing: 1 mail that could not be sent yet: "
         self.set_up("a mail waits", ("--check",), 18, waits)

@@ -96,15 +96,8 @@ class StatusTest(StateTest):
             "If it is right: aide-compare accept /n /o",
         ]
         self.assertEqual(lines[-2:], commands, "what to do then")
-        for store, option in (("/var/lib/aide-compare", ""), ("/s t", "--store '/s t' ")):
-            old = f"{store}/hosts/www-1/aide.db"
-            lines = self.people(status=5, added=1, changed=4, old=old, new=f"{old}.new")
-            accepting = f"aide-compare hosts accept {option}--sha256 {'a' * 64} www-1"
-            commands = [
-                f"What differs:   echo www-1 | aide-compare hosts report {option}-",
-                f"If it is right: {accepting}",
-            ]
-            self.assertEqual(lines[-2:], commands, "one of many hosts")
+        lines = self.people(status=5, added=1, changed=4, old="/s t/o")
+        self.assertEqual(lines[-2], "What differs:   aide-compare '/s t/o' /n", "for a shell")
         for name in ("-", "/dev/fd/3", "of-another-directory.db"):
             lines = self.people(status=5, added=1, changed=4, old=name)
             self.assertTrue(lines[-1].startswith("New database"), f"no command for {name}")

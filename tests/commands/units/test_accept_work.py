@@ -26,12 +26,11 @@ class AcceptWorkTest(ModuleTest):
         new, merged = self.copy(b"new"), self.copy(b"merged")
         old = in_memory(b"old")
         baseline: Any = SimpleNamespace(path="old.db", reading=lambda: old)
-        offer: Any = SimpleNamespace(copy=new)
         request = accept_work.AcceptRequest("new.db", "old.db", "", (), 1 << 20)
         counts = Counter[str]()
         with mock.patch.object(accept_work, "keep_open", return_value=Merged(merged, counts)):
             with mock.patch.object(accept_work, "refuse_unsound") as refuse:
-                got = accept_work.merge(request, offer, baseline)
+                got = accept_work.merge(request, new, baseline)
         self.expect("the merged one", got, Merged(merged, counts))
         self.expect(
             "what is read", refuse.mock_calls, [mock.call(new, mock.ANY), mock.call(merged)]

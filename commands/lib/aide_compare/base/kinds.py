@@ -18,7 +18,6 @@ if TYPE_CHECKING:
 UNITS = {"": 1, "s": 1, "m": 60, "h": 3600, "d": 86400, "k": 1 << 10, "M": 1 << 20, "G": 1 << 30}
 MAX_SECONDS = 30 * 86400
 MAX_SIZE = 1 << 62
-HEX_DIGITS = "[0-9a-fA-F]{16,64}"
 
 Value = TypeVar("Value")
 
@@ -89,14 +88,9 @@ def any_text(text: str) -> str:
     return text
 
 
-def digest_digits(text: str) -> str:
-    """The digits of a SHA-256: all 64 of them, or the first 16 or more."""
-    joined = "".join(text.split())
-    if not re.fullmatch(HEX_DIGITS, joined):
-        name = shown(text, 100) or "''"
-        needs = "give 16 to 64 hexadecimal digits"
-        raise argparse.ArgumentTypeError(f"not a SHA-256: {name}; {needs}")
-    return joined.lower()
+digest_digits = matching(
+    "[0-9a-fA-F]{16,64}", "a SHA-256, as 16 to 64 hexadecimal digits", str.lower
+)
 
 
 class AlarmLimit:

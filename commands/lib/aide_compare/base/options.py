@@ -183,8 +183,7 @@ KEEP_OPEN = Option(
 )
 SHA256 = Option(
     "--sha256",
-    "the SHA-256 in the report or mail that was read: 16 to 64 hexadecimal digits, or all of it in"
-    " base64",
+    "the SHA-256 in the report or mail that was read, or its first 16 digits or more",
     metavar="DIGEST",
     kind=digest_digits,
 )

@@ -38,33 +38,20 @@ Defaults = dict[str, Any]
 Given = dict[str, Any]
 
 OPERAND = "\0"  # Before a word that follows --. No argument has this byte.
-UNKNOWN_OPTION = r"unrecognized arguments: (--?[\w-]+)"
 DIRECTORY = "/etc/aide-compare"
 DEFAULTS_LINE = r"(?s)(--[a-z-]+)(?:(?:=|[ \t]+)(.*))?"
 MAY_BE_DEFAULTS = {
     option.name: option for option in (*COMPARISON_DEFAULTS, *MAIL_DEFAULTS, *CHECK_DEFAULTS)
 }
 
-# The columns of the help: those of the terminal within these limits, and 80 without one.
-_NARROWEST = 40
-_WIDEST = 120
-_WITHOUT_TERMINAL = 80
-
-
-def _help_width() -> int:
-    """argparse itself asks by shutil, which takes 10 ms to load."""
-    try:
-        columns = os.get_terminal_size(1).columns
-    except OSError:
-        columns = _WITHOUT_TERMINAL
-    return max(_NARROWEST, min(columns, _WIDEST))
+COLUMNS = 80  # Of the help. argparse itself asks the terminal by shutil, which takes 10 ms to load.
 
 
 class Formatter(argparse.HelpFormatter):
-    """Fills each paragraph of the help to the width of the terminal. No word is broken."""
+    """Fills each paragraph of the help. No word is broken."""
 
     def __init__(self, prog: str) -> None:
-        super().__init__(prog, max_help_position=26, width=_help_width())
+        super().__init__(prog, max_help_position=26, width=COLUMNS)
 
     def _fill_text(self, text: str, width: int, indent: str) -> str:
         paragraphs = [self._split_lines(part, width) for part in text.split("\n\n")]
@@ -141,7 +128,6 @@ class Parser(argparse.ArgumentParser):
             argument_default=argparse.SUPPRESS,
             formatter_class=Formatter,
         )
-        self.names = ["--help", "--version"]
         version = f"{name} {VERSION}"
         self.add_argument(
             "--version", action="version", version=version, help="print the version and stop"
@@ -155,7 +141,6 @@ class Parser(argparse.ArgumentParser):
             if isinstance(row, Operand):
                 self.add_argument(field, **words_of_operand(row))
                 continue
-            self.names.append(row.name)
             names = [each for each in (row.letter, row.name) if each]
             target: argparse._ActionsContainer = self
             if row.group:
@@ -178,16 +163,7 @@ class Parser(argparse.ArgumentParser):
         raise Done  # After --help and --version; faults are in `error`.
 
     def error(self, message: str) -> NoReturn:
-        """Refuses the command line, with the option that is nearest to one that is not there."""
-        text = message.replace(OPERAND, "")
-        hint = f"try: {self.prog} --help"
-        unknown = re.match(UNKNOWN_OPTION, text)
-        if unknown:
-            import difflib
-
-            for near in difflib.get_close_matches(unknown.group(1), self.names, 1, 0.75):
-                hint = f"did you mean: {near}"
-        raise Fault(Status.USAGE, text, hint)
+        raise Fault(Status.USAGE, message.replace(OPERAND, ""), f"try: {self.prog} --help")
 
 
 def read(

@@ -17,7 +17,7 @@ from hashlib import sha256
 from typing import IO, NamedTuple
 
 from aide_compare.base.directories import closed_after
-from aide_compare.base.ending import Fault, Status, failing, say, write_all
+from aide_compare.base.ending import Fault, Status, failing, write_all
 from aide_compare.base.escapes import shown
 from aide_compare.base.files import BLOCK, in_memory, nameless, open_regular, read_file
 from aide_compare.base.processes import Taker, bounded, run
@@ -127,15 +127,10 @@ def releases_of(directories: Iterable[str], known: Collection[str]) -> list[Rele
 
 def has_index(release: Release, path: str) -> bool:
     """Whether an index is read: if a mirror has it, or if the old database knows it, which must be
-    there then. apt may pack it (GzipIndexes)."""
+    there then."""
     if release.indexes is None:
         return os.path.isfile(path)
-    name = os.path.basename(path)
-    if name in release.indexes or f"{name}.lz4" not in release.indexes:
-        return name in release.indexes
-    if not os.path.isfile(path):
-        say(f"not read: {shown(path)}.lz4; /usr/lib/apt/apt-helper cat-file unpacks it")
-    return os.path.isfile(path)
+    return os.path.basename(path) in release.indexes
 
 
 def packages_of(release: Release, keys: int) -> Iterator[Signed]:

@@ -107,7 +107,7 @@ def title_line(request: AcceptRequest, accepted: Accepted) -> str:
 def lines_of(request: AcceptRequest, accepted: Accepted) -> Iterator[str]:
     """The lines that say what was done."""
     yield title_line(request, accepted)
-    written = accepted.new.copy.written
+    written = accepted.new.written
     date = "at an unknown time" if written is None else date_of(int(written))
     yield f"new: SHA-256 {accepted.new.sha256}, written {date}"
     if accepted.merged:

@@ -10,21 +10,14 @@ from typing import NamedTuple
 
 from aide_compare.base.ending import Fault, Status
 from aide_compare.base.escapes import shown
-from aide_compare.base.files import blocks_of, nameless, reopened
-from aide_compare.base.directories import closed_after
+from aide_compare.base.files import blocks_of, nameless
 from aide_compare.base.paths import Pattern
 from aide_compare.compare.baseline import Baseline, Owners, owners
 from aide_compare.compare.kept_open import Merged, Patterns, keep_open
 from aide_compare.compare.soundness import refuse_unsound
-from aide_compare.compare.unpack import (
-    GZIP,
-    Copy,
-    Opened,
-    copy_opened,
-    copy_packed,
-    database_digest,
-    open_database,
-)
+from aide_compare.compare.unpack import Copy, Opened, copy_opened, open_database
+
+LEVEL = 6  # Of gzip, as AIDE has it.
 
 
 class AcceptRequest(NamedTuple):
@@ -37,27 +30,14 @@ class AcceptRequest(NamedTuple):
     max_size: int
 
 
-class Offer:
-    """The new database: a private copy of its file, of which all is taken, and the Copy of what it
-    unpacks to."""
-
-    def __init__(self, opened: Opened, max_size: int) -> None:
-        packed = copy_packed(opened, max_size)
-        self.fd = reopened(packed, os.O_RDONLY)
-        copy = copy_opened(Opened("new", opened.path, packed), max_size)
-        self.copy = copy.written_at(opened.written)
-        self.sha256 = self.copy.sha256
-
-    def packed(self, copy: Copy) -> int:
-        """A descriptor of another database in the form of this one, plain or compressed by gzip."""
-        if os.pread(self.fd, 2, 0) != GZIP:
-            return copy.fd
-        target = nameless()
-        with open(os.dup(target), "wb") as file:
-            with gzip.GzipFile(filename="", mode="wb", fileobj=file, mtime=0) as member:
-                for block in blocks_of(copy.fd):
-                    member.write(block)
-        return target
+def packed(copy: Copy) -> int:
+    """A descriptor of a database, compressed by gzip."""
+    target = nameless()
+    with open(os.dup(target), "wb") as file:
+        with gzip.GzipFile("", "wb", LEVEL, file, mtime=0) as member:
+            for block in blocks_of(copy.fd):
+                member.write(block)
+    return target
 
 
 class Former(NamedTuple):
@@ -70,7 +50,7 @@ class Former(NamedTuple):
 class Accepted(NamedTuple):
     """What was done."""
 
-    new: Offer
+    new: Copy
     former: Former | None  # None if there was no baseline.
     sha256: str  # Of the baseline now.
     merged: Merged | None  # None if nothing stays open.
@@ -88,12 +68,12 @@ def former_of(baseline: Baseline, max_size: int) -> Former | None:
     descriptor = baseline.reading()
     if descriptor is None:
         return Former("", owner)
-    with closed_after(descriptor), suppress(Fault):
-        return Former(database_digest(Opened("old", baseline.path, descriptor), max_size), owner)
+    with suppress(Fault):
+        return Former(copy_opened(Opened("old", baseline.path, descriptor), max_size).sha256, owner)
     return Former("", owner)
 
 
-def merge(request: AcceptRequest, offer: Offer, baseline: Baseline) -> Merged:
+def merge(request: AcceptRequest, new: Copy, baseline: Baseline) -> Merged:
     """The new database with the old entries of what stays open."""
     descriptor = baseline.reading()
     if descriptor is None:
@@ -102,9 +82,9 @@ def merge(request: AcceptRequest, offer: Offer, baseline: Baseline) -> Merged:
         )
         raise Fault(Status.DEVICE, text)
     old = copy_opened(Opened("old", baseline.path, descriptor), request.max_size)
-    refuse_unsound(offer.copy, old)
+    refuse_unsound(new, old)
     patterns = Patterns(request.keep_open)
-    merged = keep_open(old, offer.copy, patterns)
+    merged = keep_open(old, new, patterns)
     for unused in patterns.unused():
         text = f"refused: nothing that differs is kept open by {shown(unused.text, 200)}"
         raise Fault(Status.DATABASE, text)
@@ -117,26 +97,25 @@ def accept(request: AcceptRequest) -> Accepted:
     Root opens both, and then becomes for good the user in whose directory the baseline is."""
     opened = open_database("new", request.new)
     baseline = Baseline(request.baseline)
-    offer = Offer(opened, request.max_size)
-    if not offer.sha256.startswith(request.digest):
+    new = copy_opened(opened, request.max_size)
+    if not new.sha256.startswith(request.digest):
         raise Fault(
             Status.DATABASE,
             f"refused: {shown(request.new)} is not the database that was reported",
             f"the SHA-256 that was given: {request.digest}",
-            f"the SHA-256 of the database: {offer.sha256}",
+            f"the SHA-256 of the database: {new.sha256}",
         )
     baseline.settle()
     former = former_of(baseline, request.max_size)
     merged = None
-    sha256 = offer.sha256
-    source = offer.fd
+    next_baseline = new
     if request.keep_open:
-        merged = merge(request, offer, baseline)
-        sha256 = merged.copy.sha256
-        source = offer.packed(merged.copy)
+        merged = merge(request, new, baseline)
+        next_baseline = merged.copy
     else:
-        refuse_unsound(offer.copy)
+        refuse_unsound(new)
     owner = None
-    if former is None or former.sha256 != sha256:
+    if former is None or former.sha256 != next_baseline.sha256:
+        source = packed(next_baseline) if opened.is_packed else next_baseline.fd
         owner = baseline.replace(source)
-    return Accepted(offer, former, sha256, merged, owner)
+    return Accepted(new, former, next_baseline.sha256, merged, owner)

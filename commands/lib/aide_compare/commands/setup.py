@@ -30,7 +30,7 @@ from aide_compare.commands.setup_machine import (
 )
 from aide_compare.commands.setup_options import DAILY, has_options, options_there, write_options
 from aide_compare.commands.setup_databases import databases_there
-from aide_compare.mail.waiting import hint_for_exim, troubles
+from aide_compare.mail.waiting import troubles
 
 NAME = "aide-compare setup"
 DESCRIPTION = """\
@@ -41,6 +41,7 @@ EPILOG = (
     " 15 bad arguments."
 )
 TIMER = "aide-compare.timer"
+EXIM = "Exim puts it into /var/mail/mail if /etc/aliases has no line for root, such as root: YOU"
 DATABASE_STARTS = (b"\x1f\x8b", b"@@begin_db", b"#")
 SECONDS_OF_INIT = 6 * 3600
 # What aide-compare archive reads. What a newer package replaces goes again.
@@ -177,7 +178,7 @@ class Machine:
             test = f"A test mail went to {reader}: look now whether it came."
             lines += ["", test]
             if reader == "root":
-                lines += hint_for_exim(PATHS.aliases)
+                lines.append(EXIM)
         return lines
 
     def send_test(self) -> None:

@@ -28,7 +28,6 @@ class Paths:
     def __init__(self, root: str) -> None:
         self.debian_configuration = f"{root}/etc/aide/aide.conf"
         self.other_configuration = f"{root}/etc/aide.conf"
-        self.aliases = f"{root}/etc/aliases"
         self.databases = f"{root}/var/lib/aide"
         self.own_directory = f"{root}/var/lib/aide-compare"
         self.defaults = f"{root}/etc/aide-compare/defaults"

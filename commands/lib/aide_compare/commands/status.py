@@ -3,7 +3,6 @@ read. By the name check_aide_compare it is a check for Nagios."""
 from __future__ import annotations
 
 import os
-import re
 from collections.abc import Sequence
 
 from aide_compare.base.ending import Done, Fault, Status, tell, why_of, write_all
@@ -19,7 +18,6 @@ from aide_compare.base.options import (
     QUIET,
     RESULT_AGE,
     STATE,
-    STORE,
     WARNING,
     Asked,
     Operand,
@@ -46,8 +44,6 @@ is open and of severity high; 3 UNKNOWN, all else. A LIMIT replaces the rule for
 changes that are not silent, or the least severity of one, high, medium or low."""
 MAX_LINE = 8000
 STDOUT = "-"
-# The baseline of one of many hosts, which has a command of its own.
-HOST_BASELINE = r"(/.*)/hosts/([A-Za-z0-9][A-Za-z0-9._:@-]*)/aide\.db"
 FORMATS = ("text", "json", "prometheus", "nagios")
 PREFIX = "aide_compare_"
 # What Prometheus is told of each standing and of the entries.
@@ -113,15 +109,6 @@ def command_lines(state: State) -> list[str]:
         return []
     import shlex
 
-    host = re.fullmatch(HOST_BASELINE, state.old)
-    if host and state.new == f"{state.old}.new":
-        store = "" if host.group(1) == STORE else f"--store {shlex.quote(host.group(1))} "
-        name = host.group(2)
-        return [
-            "",
-            f"What differs:   echo {name} | aide-compare hosts report {store}-",
-            f"If it is right: aide-compare hosts accept {store}--sha256 {state.new_sha256} {name}",
-        ]
     old = shlex.quote(os.path.abspath(state.old))
     new = shlex.quote(os.path.abspath(state.new))
     return [

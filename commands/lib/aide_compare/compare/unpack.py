@@ -14,6 +14,7 @@ from aide_compare.base.ending import Fault, Status, failing, write_all
 from aide_compare.base.escapes import shown
 from aide_compare.base.files import (
     BLOCK,
+    blocks_of,
     file_kind,
     given_descriptor,
     nameless,
@@ -23,9 +24,6 @@ from aide_compare.base.files import (
 from aide_compare.base.directories import closed_after, failure
 from aide_compare.base.words import words_of_side
 
-SMALL_BLOCK = 1 << 12
-# Each member costs time, also an empty one. AIDE writes one.
-MAX_MEMBERS = 1 << 16
 GZIP = b"\x1f\x8b"
 COMPRESS = b"\x1f\x9d"
 WITH_GZIP_HEADER = 31  # What zlib calls a window of 32 KiB behind a header of gzip.
@@ -42,6 +40,7 @@ class Opened:
         self.words = f"the {words_of_side(side)} database {shown(path)}"
         # When its file was last modified; None for a pipe.
         self.written = status.st_mtime if stat.S_ISREG(status.st_mode) else None
+        self.is_packed = False  # Whether its bytes were seen to be packed.
 
     def too_large(self, limit: int) -> Fault:
         return Fault(Status.DEVICE, f"{self.words} has more than {limit} bytes unpacked")
@@ -49,35 +48,27 @@ class Opened:
 
 class Copy:
     """A private copy of a database, unpacked, by its descriptor. `name` is that of the database,
-    and `written` when it was last modified, None if that is not known."""
+    and `written` when it was last modified, None if that is not known. `digest` is its SHA-256 in
+    base 16, "" before it is known."""
 
-    def __init__(self, descriptor: int, name: str, written: float | None, digest: str = "") -> None:
+    def __init__(self, descriptor: int, name: str, written: float | None) -> None:
         self.fd = descriptor
         self.name = name
         self.written = written
         self.size = os.fstat(descriptor).st_size
-        self._digest = digest
+        self.digest = ""
 
     @property
     def sha256(self) -> str:
-        """The digest in base 16. All bytes are read for it, unless whoever has read them has said
-        it."""
-        if not self._digest:
+        """The digest. All bytes are read for it, unless whoever has read them has said it."""
+        if not self.digest:
             from hashlib import sha256
 
             digest = sha256()
-            for offset in range(0, self.size, BLOCK):
-                digest.update(os.pread(self.fd, BLOCK, offset))
-            self._digest = digest.hexdigest()
-        return self._digest
-
-    def with_digest(self, digest: str) -> Copy:
-        """The same copy, whose digest is this one, unless it is known already."""
-        return Copy(self.fd, self.name, self.written, self._digest or digest)
-
-    def written_at(self, written: float | None) -> Copy:
-        """The same copy of a database that was last modified then."""
-        return Copy(self.fd, self.name, written, self._digest)
+            for block in blocks_of(self.fd):
+                digest.update(block)
+            self.digest = digest.hexdigest()
+        return self.digest
 
 
 def open_database(side: str, path: str) -> Opened:
@@ -109,39 +100,17 @@ def _raw_blocks(opened: Opened, limit: int) -> Iterator[bytes]:
         yield block
 
 
-def _small_blocks(blocks: Iterable[bytes]) -> Iterator[bytes]:
-    """The same bytes, few at a time. zlib copies what is behind a member: with whole blocks, a
-    member of 20 bytes would cost a copy of one."""
-    for block in blocks:
-        for offset in range(0, len(block), SMALL_BLOCK):
-            yield block[offset : offset + SMALL_BLOCK]
-
-
-def _unzipped(packed: Iterable[bytes], words: str) -> Iterator[bytes]:
-    """Unpacks one member of gzip after another. Zeros may follow a member, nothing else."""
-    blocks = _small_blocks(packed)
-    rest = next(blocks)
-    for _ in range(MAX_MEMBERS):
-        member = zlib.decompressobj(WITH_GZIP_HEADER)
-        while not member.eof:
-            rest = rest or next(blocks, b"")
-            if not rest:
-                raise zlib.error("it ends too early")
-            yield member.decompress(rest, BLOCK)
-            rest = member.unconsumed_tail
-        rest = _start_of_next(member.unused_data, blocks)
-        if not rest:
-            return
-    raise Fault(Status.DEVICE, f"{words} has more than {MAX_MEMBERS} members of gzip")
-
-
-def _start_of_next(unused: bytes, blocks: Iterator[bytes]) -> bytes:
-    """The first bytes of the next member; none behind the last one."""
-    for block in chain([unused], blocks):
-        start = block.lstrip(b"\0")
-        if start:
-            return start
-    return b""
+def _unzipped(packed: Iterable[bytes]) -> Iterator[bytes]:
+    """Unpacks the one member of gzip that AIDE writes. Zeros may follow it, nothing else."""
+    member = zlib.decompressobj(WITH_GZIP_HEADER)
+    for block in packed:
+        while block and not member.eof:
+            yield member.decompress(block, BLOCK)
+            block = member.unconsumed_tail
+        if member.eof and (member.unused_data.strip(b"\0") or block.strip(b"\0")):
+            raise zlib.error("more follows its first member")
+    if not member.eof:
+        raise zlib.error("it ends too early")
 
 
 def _unpacked(opened: Opened, limit: int) -> Iterator[bytes]:
@@ -155,7 +124,8 @@ def _unpacked(opened: Opened, limit: int) -> Iterator[bytes]:
         raise Fault(Status.DEVICE, text)
     blocks: Iterator[bytes] = chain([head], raw)
     if head.startswith(GZIP):
-        blocks = _unzipped(blocks, opened.words)
+        opened.is_packed = True
+        blocks = _unzipped(blocks)
     size = 0
     try:
         for block in blocks:
@@ -168,24 +138,18 @@ def _unpacked(opened: Opened, limit: int) -> Iterator[bytes]:
         raise Fault(Status.DEVICE, f"{opened.words} {why}")
 
 
-def _written_copy(opened: Opened, blocks: Iterable[bytes]) -> int:
-    """A descriptor of a private file with these bytes of an open database, which is closed."""
-    with closed_after(opened.fd):
-        copy = nameless()
-        try:
-            for block in blocks:
-                with failing(f"cannot copy {opened.words} to {shown(private_directory())}"):
-                    write_all(copy, block)
-            return copy
-        except BaseException:
-            os.close(copy)
-            raise
-
-
 def copy_opened(opened: Opened, limit: int) -> Copy:
     """A private copy of an open database, which is closed."""
-    descriptor = _written_copy(opened, _unpacked(opened, limit))
-    copy = Copy(descriptor, opened.path, opened.written)
+    with closed_after(opened.fd):
+        target = nameless()
+        try:
+            for block in _unpacked(opened, limit):
+                with failing(f"cannot copy {opened.words} to {shown(private_directory())}"):
+                    write_all(target, block)
+        except BaseException:
+            os.close(target)
+            raise
+    copy = Copy(target, opened.path, opened.written)
     progress.note_step(f"the {words_of_side(opened.side)} database is read, {copy.size} bytes")
     return copy
 
@@ -193,22 +157,3 @@ def copy_opened(opened: Opened, limit: int) -> Copy:
 def copy_database(side: str, path: str, limit: int) -> Copy:
     """A private copy of the database at a path; `side` is "old" or "new"."""
     return copy_opened(open_database(side, path), limit)
-
-
-def copy_packed(opened: Opened, limit: int) -> int:
-    """The descriptor of a private copy of an open database as it is, packed or not. The database is
-    closed."""
-    copy = _written_copy(opened, _raw_blocks(opened, limit))
-    os.lseek(copy, 0, os.SEEK_SET)
-    return copy
-
-
-def database_digest(opened: Opened, limit: int) -> str:
-    """The SHA-256 of the unpacked bytes of an open database, in base 16, without a copy of them. It
-    stays open."""
-    from hashlib import sha256
-
-    digest = sha256()
-    for block in _unpacked(opened, limit):
-        digest.update(block)
-    return digest.hexdigest()

@@ -104,7 +104,7 @@ def read_lines(comparison: Comparison) -> Lines:
     comparison.status = answer.status
     # The program has read what it has compared, so it knows the digests of whole databases.
     for side, copy in comparison.copies.items():
-        comparison.copies[side] = copy.with_digest(digests[side])
+        copy.digest = copy.digest or digests[side]
     if exclusions:
         comparison.warnings += exclusions.warnings(comparison.copies["old"])
     return Lines(target, drain.is_cut, end)
