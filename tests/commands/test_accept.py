@@ -138,7 +138,7 @@ class AcceptTest(AcceptingTest):
         """The folder of another user, in which the baseline is root's, as after aideinit."""
         self.needs_root()
         fresh(self, NOBODY)
-        self.accepts(b"the former one belongs to root:root\n")
+        self.accepts(b"the baseline now")
         self.assertEqual(contents(self), DONE)
         self.assertEqual(self.rights("aide.db")[:2], (0o600, NOBODY))
         self.assertEqual(self.rights("aide.db.previous")[:2], (0o600, 0))

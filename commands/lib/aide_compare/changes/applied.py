@@ -10,7 +10,7 @@ import io
 import os
 import tarfile
 from collections import Counter
-from collections.abc import Collection, Iterator, Sequence
+from collections.abc import Collection, Iterator, Mapping, Sequence
 from heapq import merge
 from itertools import groupby
 from typing import IO
@@ -183,25 +183,16 @@ def with_content(entry: FieldsByColumn, new: FieldsByColumn) -> FieldsByColumn:
     return changed
 
 
-def with_links(entry: FieldsByColumn, rise: int) -> FieldsByColumn:
-    """A directory with another number of subdirectories. A file system that does not count them has
-    one link for each."""
-    count = number_of(entry.get("lcount", ABSENT))
-    if count < 2:
-        return entry
-    return {**entry, "lcount": b"%d" % (count + rise)}
-
-
 def new_entry(
-    path: bytes, likely: FieldsByColumn, new: FieldsByColumn, rise: int
+    path: bytes, likely: FieldsByColumn, new: FieldsByColumn, subdirectories: int
 ) -> FieldsByColumn:
     """The entry of a new file: measured as another one with its mode, and with no right beyond
-    that."""
+    that. A file system that does not count subdirectories has one link for each directory."""
     more = dict(name=escaped(path), capabilities=ABSENT, xattrs=ABSENT)
     more.update(uid=new["uid"], gid=new["gid"])
     count = number_of(likely.get("lcount", ABSENT))
     if count > 1:
-        more["lcount"] = b"%d" % (2 + rise if is_directory(new) else 1)
+        more["lcount"] = b"%d" % (2 + subdirectories if is_directory(new) else 1)
     return {name: more.get(name, field) for name, field in with_content(likely, new).items()}
 
 
@@ -211,19 +202,6 @@ def may_come(new: FieldsByColumn) -> bool:
     return not (is_file and int(new["perm"], 8) & SET_ID)
 
 
-def expected(
-    entry: FieldsByColumn, fields: FieldsByColumn, is_replaced: bool, rise: int
-) -> FieldsByColumn:
-    """An old entry after upgrades to packages that have these fields at its path."""
-    if not fields or type_digits(fields) != type_digits(entry):
-        return entry
-    if is_directory(entry):
-        return with_links(entry, rise)
-    if is_replaced:
-        return with_content(entry, fields)
-    return entry
-
-
 def is_likely(entry: FieldsByColumn) -> bool:
     """Whether a new file is measured as this one, and gets no right from it."""
     is_file = type_digits(entry) == TYPES[tarfile.REGTYPE]
@@ -231,30 +209,15 @@ def is_likely(entry: FieldsByColumn) -> bool:
     return (has_digest or not is_file) and not has_access_list(entry)
 
 
-def rises_of(old: Copy, new: Copy, upgrades: Upgrades) -> Counter[bytes]:
-    """By how much the links of directories rise: by the subdirectories of packages that are there
-    now, less those that went, which are reported themselves."""
-    rises: Counter[bytes] = Counter()
-    former = EntryReader(old)
-    latter = EntryReader(new)
-    entries = merge(former.entries(OLD), latter.entries(NEW))
-    for key, group in groupby(entries, key_of_entry):
-        lines = {entry.side: entry.line for entry in group}
-        if lines.get(OLD) == lines.get(NEW):
-            continue
-        parent = key[: key.rindex(SLASH)] or SLASH
-        was_directory = is_directory(former.fields(lines.get(OLD, b"")))
-        is_now_directory = is_directory(latter.fields(lines.get(NEW, b"")))
-        if was_directory and not is_now_directory:
-            rises[parent] -= 1
-        elif is_now_directory and OLD not in lines:
-            rises[parent] += is_directory(upgrades.files.get(key, {}))
-    return rises
+def subdirectories_in(files: Mapping[bytes, FieldsByColumn]) -> Counter[bytes]:
+    """How many subdirectories the directories of packages have there."""
+    keys = (key for key, fields in files.items() if is_directory(fields))
+    return Counter(key[: key.rindex(SLASH)] for key in keys)
 
 
-def upgraded(old: Copy, new: Copy, upgrades: Upgrades) -> int:
+def upgraded(old: Copy, upgrades: Upgrades) -> int:
     """A private file with the database that the old one would be after these upgrades."""
-    rises = rises_of(old, new, upgrades)
+    subdirectories = subdirectories_in(upgrades.files)
     target = nameless()
     file = open(os.dup(target), "wb", BLOCK)
     reader = EntryReader(old, file.write)
@@ -266,9 +229,10 @@ def upgraded(old: Copy, new: Copy, upgrades: Upgrades) -> int:
         if entry:
             if is_likely(entry):
                 last[entry["perm"]] = entry
-            entry = expected(entry, fields, key in upgrades.replaced, rises[key])
+            if key in upgrades.replaced and type_digits(fields) == type_digits(entry):
+                entry = with_content(entry, fields)
         elif fields.get("perm") in last and may_come(fields):
-            entry = new_entry(path_of(key), last[fields["perm"]], fields, rises[key])
+            entry = new_entry(path_of(key), last[fields["perm"]], fields, subdirectories[key])
         if entry and key not in upgrades.gone:
             file.write(b" ".join(entry.values()) + b"\n")
     file.write(reader.end)

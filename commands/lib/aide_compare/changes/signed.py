@@ -19,7 +19,7 @@ from typing import IO, NamedTuple
 from aide_compare.base.directories import closed_after
 from aide_compare.base.ending import Fault, Status, failing, write_all
 from aide_compare.base.escapes import shown
-from aide_compare.base.files import BLOCK, in_memory, nameless, open_regular, read_file
+from aide_compare.base.files import BLOCK, in_memory, nameless, open_regular, read_file, read_whole
 from aide_compare.base.processes import Taker, bounded, run
 from aide_compare.base.program import Drain
 
@@ -35,7 +35,7 @@ GOOD = re.compile(rb"^\[GNUPG:\] GOODSIG ", re.M)
 BAD = re.compile(rb"^\[GNUPG:\] (?:BADSIG|NODATA|UNEXPECTED|ERROR)\b", re.M)
 EXPIRES = re.compile(r"^Valid-Until: *(.+)$", re.M)
 SUITES = re.compile(r"^(?:Suite|Codename): *(.+)$", re.M)
-INDEX = re.compile(r"^ ([0-9a-f]{64}) +\d+ ([\w.+/-]*/binary-[\w-]+/Packages)(|\.xz|\.gz)$", re.M)
+INDEX = re.compile(r"^ ([0-9a-f]{64}) +(\d+) ([\w.+/-]*/binary-[\w-]+/Packages)(|\.xz|\.gz)$", re.M)
 Unpack = Callable[[bytes], bytes]
 UNPACK: dict[str, Unpack] = {"": bytes, ".xz": lzma.decompress, ".gz": gzip.decompress}
 FIELD = re.compile(r"^(Package|Version|Architecture|Filename|SHA256|Size): *(.*)$", re.M)
@@ -83,14 +83,6 @@ def signed_text(release: Release, keys: int) -> str:
     return signed
 
 
-def read_signed(path: str, limit: int, digest: str) -> bytes:
-    """The bytes of a file that has this digest."""
-    data = read_file(path, limit)
-    if sha256(data).hexdigest() != digest:
-        raise Fault(Status.DEVICE, f"{shown(path)} is not as it was signed")
-    return data
-
-
 def copy_signed(path: str, size: int, digest: str) -> int:
     """A private copy of a file that has this size and digest. It may be larger than memory."""
     copy = nameless()
@@ -102,6 +94,7 @@ def copy_signed(path: str, size: int, digest: str) -> int:
             write_all(copy, block)
     if size != 0 or content.hexdigest() != digest:
         raise Fault(Status.DEVICE, f"{shown(path)} is not as it was signed")
+    os.lseek(copy, 0, os.SEEK_SET)
     return copy
 
 
@@ -137,10 +130,11 @@ def packages_of(release: Release, keys: int) -> Iterator[Signed]:
     """The packages of the indexes that an InRelease file names: below its directory, or beside it
     with its name before theirs, as apt keeps them."""
     before = release.path[: -len(RELEASE)]
-    for digest, name, ending in INDEX.findall(signed_text(release, keys)):
+    for digest, size, name, ending in INDEX.findall(signed_text(release, keys)):
         path = before + (name if release.indexes is None else name.replace("/", "_")) + ending
         if has_index(release, path):
-            index = UNPACK[ending](read_signed(path, MAX_INDEX, digest))
+            with closed_after(copy_signed(path, int(size), digest)) as copy:
+                index = UNPACK[ending](read_whole(copy, MAX_INDEX, shown(path)))
             for paragraph in index.decode("utf-8", "surrogateescape").split("\n\n"):
                 yield {**dict(FIELD.findall(paragraph)), RELEASE: release.path}
 

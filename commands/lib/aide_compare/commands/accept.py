@@ -119,11 +119,8 @@ def lines_of(request: AcceptRequest, accepted: Accepted) -> Iterator[str]:
         yield "former: none, this is the first baseline"
         return
     if accepted.is_replaced:
-        sha256 = former.sha256 or "unknown, it cannot be read"
+        sha256 = former or "unknown, it cannot be read"
         yield f"former: SHA-256 {sha256}, kept as {shown(request.baseline)}.previous"
-    if accepted.owner and accepted.owner != former.owner:
-        names = accepted.owner.names()
-        yield f"it belongs to {names}; the former one belongs to {former.owner.names()}"
 
 
 def run(request: AcceptRequest, is_quiet: bool) -> int:

@@ -12,7 +12,7 @@ from aide_compare.base.ending import Fault, Status
 from aide_compare.base.escapes import shown
 from aide_compare.base.files import blocks_of, nameless
 from aide_compare.base.paths import Pattern
-from aide_compare.compare.baseline import Baseline, Owners, owners
+from aide_compare.compare.baseline import Baseline
 from aide_compare.compare.kept_open import Merged, Patterns, keep_open
 from aide_compare.compare.soundness import refuse_unsound
 from aide_compare.compare.unpack import Copy, Opened, copy_opened, open_database
@@ -40,37 +40,29 @@ def packed(copy: Copy) -> int:
     return target
 
 
-class Former(NamedTuple):
-    """What was the baseline before."""
-
-    sha256: str  # "" if it cannot be read.
-    owner: Owners
-
-
 class Accepted(NamedTuple):
     """What was done."""
 
     new: Copy
-    former: Former | None  # None if there was no baseline.
+    # The SHA-256 of the former baseline; None if there was none, "" if it cannot be read.
+    former: str | None
     sha256: str  # Of the baseline now.
     merged: Merged | None  # None if nothing stays open.
-    owner: Owners | None  # Of the baseline, None if nothing was written.
 
     @property
     def is_replaced(self) -> bool:
-        return self.former is None or self.former.sha256 != self.sha256
+        return self.former != self.sha256
 
 
-def former_of(baseline: Baseline, max_size: int) -> Former | None:
+def former_digest(baseline: Baseline, max_size: int) -> str | None:
+    """The SHA-256 of what is the baseline; None if there is none, "" if it cannot be read."""
     if baseline.former is None:
         return None
-    owner = owners(baseline.former.status)
     descriptor = baseline.reading()
-    if descriptor is None:
-        return Former("", owner)
-    with suppress(Fault):
-        return Former(copy_opened(Opened("old", baseline.path, descriptor), max_size).sha256, owner)
-    return Former("", owner)
+    if descriptor is not None:
+        with suppress(Fault):
+            return copy_opened(Opened("old", baseline.path, descriptor), max_size).sha256
+    return ""
 
 
 def merge(request: AcceptRequest, new: Copy, baseline: Baseline) -> Merged:
@@ -106,7 +98,7 @@ def accept(request: AcceptRequest) -> Accepted:
             f"the SHA-256 of the database: {new.sha256}",
         )
     baseline.settle()
-    former = former_of(baseline, request.max_size)
+    former = former_digest(baseline, request.max_size)
     merged = None
     next_baseline = new
     if request.keep_open:
@@ -114,8 +106,7 @@ def accept(request: AcceptRequest) -> Accepted:
         next_baseline = merged.copy
     else:
         refuse_unsound(new)
-    owner = None
-    if former is None or former.sha256 != next_baseline.sha256:
-        source = packed(next_baseline) if opened.is_packed else next_baseline.fd
-        owner = baseline.replace(source)
-    return Accepted(new, former, next_baseline.sha256, merged, owner)
+    accepted = Accepted(new, former, next_baseline.sha256, merged)
+    if accepted.is_replaced:
+        baseline.replace(packed(next_baseline) if opened.is_packed else next_baseline.fd)
+    return accepted

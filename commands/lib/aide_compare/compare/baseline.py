@@ -31,28 +31,8 @@ class Identity(NamedTuple):
     inode: int
 
 
-class Owners(NamedTuple):
-    """The numbers of the user and of the group that a file belongs to."""
-
-    user: int
-    group: int
-
-    def names(self) -> str:
-        """Their names, or their numbers."""
-        import grp
-
-        group = str(self.group)
-        with suppress(KeyError):
-            group = grp.getgrgid(self.group).gr_name
-        return shown(f"{entry_of(self.user).pw_name}:{group}", 200)
-
-
 def identity(status: os.stat_result) -> Identity:
     return Identity(status.st_dev, status.st_ino)
-
-
-def owners(status: os.stat_result) -> Owners:
-    return Owners(status.st_uid, status.st_gid)
 
 
 def _user_for(directory: Directory) -> int | None:
@@ -133,8 +113,8 @@ class Baseline:
         os.lseek(self._readable, 0, os.SEEK_SET)
         return os.dup(self._readable)
 
-    def replace(self, source: int) -> Owners:
-        """Makes a copy of an open file the baseline. Returns to whom it belongs."""
+    def replace(self, source: int) -> None:
+        """Makes a copy of an open file the baseline."""
         try:
             written = self._replace(source)
             # It could have been renamed: the path has to lead to the new baseline.
@@ -144,7 +124,6 @@ class Baseline:
                 raise Fault(Status.DEVICE, CHANGED)
         except (Fault, OSError) as error:
             raise Fault(Status.DEVICE, f"{self.words}: {why_of(error)}")
-        return owners(written)
 
     def settle(self) -> None:
         """Ends what a run has left that was killed while the names changed."""
