@@ -103,7 +103,8 @@ class Fleet:
         return self.call(COMPARE, *words, before=before)
 
     def compare_one(self, host: str, *words: str, before: Sequence[str] = ()) -> Answer:
-        return self.compare(*words, "--one", host, before=before)
+        hosts = self.sandbox.write("one-host", f"{host}\n")
+        return self.compare(*words, hosts, before=before)
 
     def state(self, host: str) -> str:
         """The values of a state file, a line each; nothing if there is none."""
@@ -211,17 +212,16 @@ class FleetTest(CommandTest):
         hosts = self.fleet.list_hosts("silent", "good1")
         pid = self.path("ssh.pid")
         for number in (signal.SIGTERM, signal.SIGHUP, signal.SIGKILL):
-            for command, last in ((COMPARE, hosts), ("aide-compare hosts fetch", "silent")):
-                self.write("ssh.pid", "")
-                run = self.fleet.start(self.fleet.words(command, last))
-                until(lambda: self.read("ssh.pid").strip())
-                ssh = int(self.read(pid))
-                begun = time.monotonic()
-                run.send_signal(number)
-                run.communicate(timeout=60)
-                self.assertEqual(run.returncode, -number, command)
-                self.assertLess(time.monotonic() - begun, 30, (command, number))
-                self.assertTrue(until(lambda: not is_alive(ssh)), (command, number))
+            self.write("ssh.pid", "")
+            run = self.fleet.start(self.fleet.words(COMPARE, hosts))
+            until(lambda: self.read("ssh.pid").strip())
+            ssh = int(self.read(pid))
+            begun = time.monotonic()
+            run.send_signal(number)
+            run.communicate(timeout=60)
+            self.assertEqual(run.returncode, -number, number)
+            self.assertLess(time.monotonic() - begun, 30, number)
+            self.assertTrue(until(lambda: not is_alive(ssh)), number)
 
     def test_told(self) -> None:
         """What people see of a host's bytes, and a process that ends without an answer."""
@@ -242,13 +242,12 @@ class FleetTest(CommandTest):
 
     def test_wrong(self) -> None:
         hosts = self.fleet.list_hosts("good1")
-        of_one = ("--one --canary good1",)
-        for words in ("--same-for 08x", "--same-for 31d", "--time -1", "--max-size 1T", *of_one):
+        for words in ("--same-for 08x", "--same-for 31d", "--time -1", "--max-size 1T", "--one"):
             said = self.fleet.compare(*words.split(), hosts)
             self.assertEqual((said.status, said.output_text), (15, ""), words)
             self.assertTrue(said.error_text, words)
         for name in ("..", "a..b", "-x", "a/b", "a b", "x\ny", "é", "a" * 201, "a\n"):
-            said = self.fleet.call("aide-compare hosts fetch", "--", name)
+            said = self.fleet.call("aide-compare hosts accept", "--sha256", "0" * 64, "--", name)
             self.assertEqual(said.status, 15, (name, said))
             self.assertNotIn(name, os.listdir(self.path("store/hosts")))
 
@@ -274,30 +273,30 @@ class FleetTest(CommandTest):
             self.fleet.not_compared("in the future", self.fleet.compare_one(host), host)
 
     def test_accepting(self) -> None:
-        """The first baseline of a host, once."""
+        """A baseline of a host by the digest of what it sent, be it the first one."""
         accept = "aide-compare hosts accept"
         self.fleet.put("fresh", OLD, None)
-        self.fleet.call("aide-compare hosts fetch", "fresh")
+        said = self.fleet.call(accept, "--sha256", sha256(OLD), "fresh")
+        self.assertEqual((said.status, "nothing was fetched" in said.error_text), (18, True), said)
+        self.fleet.not_compared("no baseline yet", self.fleet.compare_one("fresh"), "fresh")
         self.assertEqual(self.fleet.call(accept, "fresh").status, 15, "no digest")
-        said = self.fleet.call(accept, "--first", "fresh")
+        self.assertEqual(self.fleet.call(accept, "--sha256", sha256(NEW), "fresh").status, 24)
+        said = self.fleet.call(accept, "--sha256", sha256(OLD), "--max-size", "50", "fresh")
+        self.assertEqual((said.status, said.output_text), (18, ""), said)
+        self.assertIn("has more than 50 bytes", said.error_text)
+        said = self.fleet.call(accept, "--sha256", sha256(OLD), "fresh")
         self.assertEqual(said.status, 0, said)
-        self.assertRegex(said.output_text, "SHA-256 [0-9a-f]{64}\n")
         mode = os.stat(self.path("store/hosts/fresh/aide.db")).st_mode & 0o777
         self.assertEqual(mode, 0o600)
-        self.assertEqual(self.fleet.call(accept, "--first", "fresh").status, 24)
-        for words in (("--first", "other"), ("--sha256", sha256(OLD), "fresh")):
-            self.fleet.put("other", OLD, None)
-            self.fleet.call("aide-compare hosts fetch", words[-1])
-            said = self.fleet.call(accept, "--max-size", "50", *words)
-            self.assertEqual((said.status, said.output_text), (18, ""), (words, said))
-            self.assertIn("has more than 50 bytes", said.error_text)
 
     def test_one(self) -> None:
         """The changes of a single host, the most severe first, each with its severity."""
         new = b"/a 36 100644 5\n/etc/passwd 36 100644 5\n/usr/bin/x 36 104755 5\n"
         self.fleet.put("good1", HEAD + new + END, HEAD + END)
-        said = self.fleet.compare_one("good1")
-        found = re.findall("(?m)^(high|medium|low) added File: (.*)$", said.output_text)
+        self.fleet.compare_one("good1")
+        said = self.fleet.call("aide-compare hosts report", self.path("one-host"))
+        form = "(?m)^(high|medium|low) on 1 of 1 hosts: good1\nadded File: (.*)$"
+        found = re.findall(form, said.output_text)
         wanted = [("high", "/usr/bin/x"), ("high", "/etc/passwd"), ("medium", "/a")]
         self.assertEqual(found, wanted, said)
 

@@ -10,7 +10,7 @@ from .sandbox import CommandTest, DIFFER, NEW, OLD, sha256
 
 TOOL = "aide-compare"
 SUBCOMMANDS = "compare show json page mail accept status sort setup version".split()
-HOSTS = "add fetch compare accept report".split()
+HOSTS = "add compare accept report".split()
 EVERY = SUBCOMMANDS + ["hosts " + word for word in HOSTS]
 COMMON = [
     b"\n  -q, --quiet ",

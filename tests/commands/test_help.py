@@ -10,7 +10,7 @@ from tests.lib.scratch import TOP
 FRONT = os.path.join(TOP, "commands", "bin", "aide-compare")
 COMMANDS = (
     "compare show json page mail status accept archive sort setup version".split()
-    + [f"hosts {word}" for word in ("add", "fetch", "compare", "accept", "report")]
+    + [f"hosts {word}" for word in ("add", "compare", "accept", "report")]
     + ["help", "hosts"]
 )
 

@@ -202,9 +202,25 @@ class HostsAddTest(CommandTest):
         said = self.fleet.call(command, "www")
         self.assertEqual((said.status, files(self)), (15, {}), said)
         self.assertIn("needs a terminal", said.error_text)
+        said = self.fleet.call(command, "--sha256", sha256(NEW), "www")
+        self.assertEqual((said.status, files(self)), (24, {}), said)
+        self.assertIn(f"sent another database, with the SHA-256 {sha256(OLD)}", said.error_text)
+        said = self.fleet.call(command, "--sha256", sha256(OLD), "www", "db1")
+        self.assertEqual((said.status, files(self)), (15, {}), said)
         for option in ("--yes", "-y", "--force"):
             said = self.fleet.call(command, option, "www")
             self.assertEqual((said.status, files(self)), (15, {}), (option, said))
+
+    def test_digest(self) -> None:
+        """With the digest of its database a host is added without a question, once."""
+        words = ("--sha256", sha256(OLD)[:16].upper(), "--hosts-file", self.path("etc-hosts"))
+        self.fleet.put("www", OLD, None)
+        said = self.fleet.call("aide-compare hosts add", *words, "www")
+        self.assertEqual((said.status, said.error_text), (0, ""), said)
+        self.assertEqual(files(self), {"etc-hosts": "www\n", "www/aide.db": OLD.decode()})
+        self.assertFalse(os.path.exists(self.path("known_hosts")), "ssh has not asked")
+        said = self.fleet.call("aide-compare hosts add", *words, "www")
+        self.assertEqual((said.status, "a baseline already" in said.error_text), (24, True), said)
 
     def test_faults(self) -> None:
         """What cannot be fetched or is no database is not asked about."""

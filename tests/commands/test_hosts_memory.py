@@ -77,7 +77,7 @@ class HostsMemoryTest(CommandTest):
         fleet.put("greedy", NEW, OLD)
         greedy = "def copy_database(*words, **more):\n    bytes(100 << 20)\n"
         self.after_import("hosts.host_comparison", "copy_database\n" + greedy)
-        status, output, memory = measured(fleet, "--one", "greedy")
+        status, output, memory = measured(fleet, self.write("hosts", "greedy\n"))
         good = status == 22 and output.startswith("greedy 22 what it sent needs too much memory\n")
         self.holds("100 MB are refused", good and memory < LIMIT + INTERPRETER, (output, memory))
         self.assertIn("\nstatus=22\n", fleet.state("greedy"), ("the state says so", output))

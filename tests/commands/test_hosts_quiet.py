@@ -88,15 +88,9 @@ class HostsQuietTest(CommandTest):
         accept = "aide-compare hosts accept"
         self.write("store/hosts/h04/aide.db.new", b"x" * 500, 0o600)
         os.remove(self.path("store/hosts/h04/aide.db"))
-        said = fleet.call(accept, "--first", "h04")
+        said = fleet.call(accept, "--sha256", sha256(b"x" * 500), "h04")
         self.assertEqual((said.status, said.output_text), (24, ""), said)
         self.assertIn("no sound database", said.error_text)
-        os.remove(self.path("store/hosts/h06/aide.db"))
-        fleet.call("aide-compare hosts fetch", "h06")
-        full = ["sh", "-c", '"$@" > /dev/full', "sh"]
-        self.assertEqual(fleet.call(accept, "--first", "h06", before=full).status, 18)
-        is_there = os.path.exists(self.path("store/hosts/h06/aide.db"))
-        self.assertFalse(is_there, "a first baseline that nobody could read of")
         fleet.compare_one("h05")
         said = fleet.call(accept, "--sha256", sha256(NEW), "--keep-open", "/c", "h05")
         self.assertEqual(said.status, 0, said)

@@ -9,6 +9,7 @@ from tests.commands.made_up import Host, Package
 ONE, TWO = b"one", b"two"
 INFO = b"/var/lib/dpkg/info/"
 MODULE = b"/usr/lib/x86_64-linux-gnu/security/pam_zz.so"
+TITLE = "All changes with their values, as a page (with the options of this job):"
 
 
 def many_packages() -> Host:
@@ -68,13 +69,8 @@ class MailPackagesTest(mail.MailTest):
     def test_options(self) -> None:
         """The command for a page does not repeat the options of the job."""
         words = [f"--exclude=/srv/{number}/**" for number in range(90)]
-        title = "All changes with their values, as a page"
-        rows: list[tuple[list[str], str]] = [
-            (words, f"{title} (add the options of this job):"),
-            ([], f"{title}:"),
-        ]
-        for given, wanted in rows:
+        for given in (words, []):
             lines = self.lines(many_packages(), *given)
             self.assertLessEqual(len(lines), 80 + 1)
             self.assertNotIn("/srv/", "\n".join(lines))
-            self.assertIn(wanted, lines)
+            self.assertIn(TITLE, lines)

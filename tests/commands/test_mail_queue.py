@@ -128,13 +128,15 @@ class QueueTest(MailTest):
         """The unit that sends what waits mails that another unit has failed."""
         failed = {
             "MONITOR_SERVICE_RESULT": "exit-code",
-            "MONITOR_UNIT": "x.service",
             "MONITOR_EXIT_STATUS": "18",
         }
-        call(self, "--send-queue", "queue", environment=failed)
-        message = sent(self)
-        self.assertIn("failed", subject(message) or "")
-        self.assertIn(b"x.service", body(message))
+        words = ("--send-queue", "queue", "--unit-failed", "x.service")
+        lines = b"Its lines: journalctl -u x.service\n"
+        for environment, how in ((failed, b": exit-code, status 18"), ({}, b"")):
+            call(self, *words, environment=environment)
+            message = sent(self)
+            self.assertIn("failed", subject(message) or "")
+            self.assertEqual(body(message), b"x.service failed" + how + b". " + lines)
 
     def test_full_queue(self) -> None:
         for number in range(64):

@@ -202,7 +202,6 @@ class RecordedTest(CommandTest):
         line = "  tool 1:2-3: 2 files, 1 of severity high\n"
         text = host.brief(self)
         self.assertIn(line, text, "their line")
-        self.assertIn("\nNew packages: fresh\n", text, "one of which each path came")
         self.set_names("changes.rpm", MAX_ALL=1 << 20)
         for stub, said in (
             ("exit 1", b"rpm did not say which packages there are"),

@@ -113,7 +113,7 @@ class SortingTest(CommandTest):
         advice = [b"straight from AIDE, it is damaged", b"make it anew"]
         for text, count in ((text_of(moved), 1), (whole, 0)):
             answer = self.sort(text)
-            said = b": out of order: %d of 13,257 lines\n" % count
+            said = b": out of order: %d of 13257 lines\n" % count
             self.expect("%d out of order" % count, answer, 0, None, [said, *advice[: 2 * count]])
             self.assertEqual((answer.output, b"damaged" in answer.errors), (whole, count == 1))
 
@@ -166,7 +166,7 @@ class SortingTest(CommandTest):
         path = self.path("large.db")
         write_large(path, 600000)
         answer = self.measured(b"", path)
-        self.expect("120 MB", answer, 0, None, b" of 600,000 lines")
+        self.expect("120 MB", answer, 0, None, b" of 600000 lines")
         keys = [line.split()[1] for line in answer.output.splitlines() if line.startswith(b"36 ")]
         self.assertEqual((len(keys), keys == sorted(keys)), (600000, True))
         bomb = gzip.compress(bytes(300000000), 1)

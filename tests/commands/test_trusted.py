@@ -208,7 +208,7 @@ class TrustedTest(mail.MailTest):
         message = mail.sent(self)
         self.assertRegex(mail.subject(message), r"3 open \(3 high\) of 7 changes\Z")
         self.assertIn(b"\nSilent: 1 same, 3 trusted\n", mail.body(message))
-        self.assertIn(b"as a page (add the options of this job):\n", mail.body(message))
+        self.assertIn(b"as a page (with the options of this job):\n", mail.body(message))
         os.remove(self.path("canary-new.db"))
         self.assertEqual(mail.call(self, *PAIR, *BOTH).status, 18)
         self.assertIn(b"cannot open the trusted new database", mail.body(mail.sent(self)))

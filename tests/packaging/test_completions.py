@@ -16,7 +16,7 @@ FISH = "share/fish/vendor_completions.d/aide-compare.fish"
 REPORT_OPTIONS = ["report_level"] + BOOL_OPTIONS + SET_OPTIONS
 SUBCOMMANDS = "compare show json page mail accept archive status sort setup version".split()
 HOSTS = [
-    "hosts " + word for word in ("add", "list", "remove", "fetch", "compare", "accept", "report")
+    "hosts " + word for word in ("add", "list", "remove", "compare", "accept", "report")
 ]
 
 # What bash offers for the last word of a line.
@@ -194,7 +194,7 @@ class CompletionsTest(InstallTest):
             ("aide-compare mail --max-s", ["--max-size"]),
             ("aide-compare mail --aft", ["--after"]),
             ("aide-compare hosts report --format js", ["json"]),
-            ("aide-compare hosts fe", ["fetch"]),
+            ("aide-compare hosts rep", ["report"]),
         ):
             done = self.run_words(
                 ["fish", "-c", "complete -C '%s'" % line],

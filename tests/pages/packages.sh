@@ -179,10 +179,12 @@ try_ssh() {
     /usr/sbin/sshd -D -p 2222 -o ListenAddress=127.0.0.1 -o PermitRootLogin=forced-commands-only -o UsePAM=no \
         > "$folder/sshd" 2>&1 &
     printf 'Host www\n  HostName 127.0.0.1\n  Port 2222\nHost down\n  HostName 127.0.0.1\n  Port 2223\n' > /root/.ssh/config
-    check 'an unknown host key is refused' ends_with 18 aide-compare hosts fetch www
+    printf 'www\n' > "$folder/www"
+    check 'an unknown host key is refused' ends_with 18 aide-compare hosts compare "$folder/www"
+    check 'and nothing was fetched' test ! -e /var/lib/aide-compare/hosts/www/aide.db.new
     wait_for 20 ssh-keyscan -p 2222 127.0.0.1
     ssh-keyscan -p 2222 127.0.0.1 > /root/.ssh/known_hosts 2> /dev/null
-    check 'aide-compare hosts fetch by ssh' ends_with 0 aide-compare hosts fetch www
+    check 'the first fetch by ssh finds no baseline' ends_with 18 aide-compare hosts compare "$folder/www"
     check 'it has fetched aide.db.new' cmp /var/lib/aide/aide.db.new /var/lib/aide-compare/hosts/www/aide.db.new
     ssh -n -o BatchMode=yes www 'id; cat /etc/shadow' > "$folder/forced" 2> /dev/null
     check 'the key reads nothing else' cmp /var/lib/aide/aide.db.new "$folder/forced"

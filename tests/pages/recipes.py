@@ -2,6 +2,7 @@
 from __future__ import annotations
 
 import gzip
+import hashlib
 import json
 import os
 
@@ -242,6 +243,7 @@ def begin(test: RecipesTest) -> None:
     test.write(HOSTS, "www\n")
     os.makedirs(test.path("/remote"))
     os.symlink(test.path("/var/lib/aide"), test.path("/remote/www"))
-    done = test.recipe("first host")
-    test.assertEqual(done.status, 0)
-    test.assertIn(b"SHA-256 ", done.output)
+    digest = hashlib.sha256(example("old.db")).hexdigest()
+    done = test.shell(f"DIGEST={digest}; {test.text('first host')}")
+    test.assertEqual(done.status, 0, done)
+    test.assertIn(b"www is watched", done.output)

@@ -66,7 +66,7 @@ class BaselineTest(ModuleTest):
     def test_replaced(self) -> None:
         self.addCleanup(os.chdir, os.getcwd())
         os.chdir(self.root)
-        self.gives((os.getuid(), os.getgid()), replace, NAME, self.source)
+        replace(NAME, self.source)
         self.expect("the first one", (self.texts(), self.rights(NAME)[0]), ({NAME: b"new"}, 0o600))
         owner = (12345, 12346) if os.getuid() == 0 else (os.getuid(), os.getgid())
         # As it is, and as on file systems that exchange no names, or know no files without one.

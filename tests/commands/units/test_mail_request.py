@@ -25,7 +25,7 @@ class MailRequestTest(ModuleTest):
         """What some words ask for. Of a mail they ask for nothing else that no words ask for."""
         request = request_of(words.split())
         usual = request_of(["o", "n"])
-        own = (MailRequest.rows().keys() - CompareRequest.rows().keys()) | {"has_options", "notes"}
+        own = (MailRequest.rows().keys() - CompareRequest.rows().keys()) | {"notes"}
         for name in own | wanted.keys():
             value = wanted.get(name, vars(usual)[name])
             self.assertEqual(vars(request)[name], value, (words, name))
@@ -34,7 +34,7 @@ class MailRequestTest(ModuleTest):
     def test_words(self) -> None:
         rows: dict[str, dict[str, Any]] = {
             "o n": {"address": "root", "notes": []},
-            "o n -c x": {"has_options": True},
+            "o n -c x": {"configuration": "x"},
             "--to a@b": {"address": "a@b"},
             "--mail-time 9s": {"seconds": 9},
             "--attach-page": {"has_page": True},
@@ -77,7 +77,7 @@ class MailRequestTest(ModuleTest):
         self.write("defaults", b"--to a@b\n--weekly Tue\n--max-age 5d\n")
         usual = {"address": "a@b", "weekly": "Tue"}
         self.asks("--to c@d", **{**usual, "address": "c@d"})
-        comparison = self.asks("o n --max-size 1G", has_options=True, **usual)
+        comparison = self.asks("o n --max-size 1G", **usual)
         self.assertEqual(comparison.max_age, 5 * 86400)
         self.asks("-- o n", **usual)
         self.asks("--state=s", state="s", **usual)
@@ -92,14 +92,14 @@ class MailRequestTest(ModuleTest):
         what both say."""
         lines = b"--databases o  n\n--state s\n--weekly Tue\n--exclude /a\n"
         self.write("defaults", lines)
-        comparison = self.asks("--exclude /b", state="s", weekly="Tue", has_options=True)
+        comparison = self.asks("--exclude /b", state="s", weekly="Tue")
         got = (comparison.databases, comparison.state, comparison.exclude)
         self.assertEqual(got, (["o", "n"], "s", ["/a", "/b"]))
         comparison = self.asks("--state t x y", state="t", weekly="Tue")
         self.assertEqual((comparison.databases, comparison.state), (["x", "y"], "t"))
         other = self.asks("x y", weekly="Tue")
         self.assertIsNone(other.state, "the state of this machine is not of others")
-        comparison = self.asks("--no-defaults", has_options=True, weekly=None)
+        comparison = self.asks("--no-defaults", weekly=None)
         self.assertEqual((comparison.databases, comparison.exclude), ((), []))
 
     def test_bad_lines(self) -> None:

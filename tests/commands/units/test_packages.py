@@ -70,10 +70,10 @@ class PackagesTest(ModuleTest):
         rows = [SimpleNamespace(path=INFO + name, kind=kind) for name, kind in names]
         findings: Any = SimpleNamespace(below=lambda _directory: rows)
         wanted = {"New packages": ["tool", "new"], "Removed packages": ["old", "gone"]}
-        self.expect("without a pair", self.dpkg().named(findings, {}, False), wanted)
+        self.expect("without a pair", self.dpkg().named(findings, False), wanted)
         wanted["Unsigned packages"] = ["new", "other"]
         wanted["New packages"] = ["tool"]
-        named = self.dpkg().named(findings, {}, True)
+        named = self.dpkg().named(findings, True)
         self.expect("beside a pair", named, wanted)
         self.expect("in their order", list(named)[0], "Unsigned packages")
 

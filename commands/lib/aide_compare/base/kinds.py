@@ -6,7 +6,7 @@ import argparse
 import os
 import re
 from collections.abc import Callable
-from typing import TYPE_CHECKING, TypeVar
+from typing import TYPE_CHECKING, NamedTuple, TypeVar
 
 from aide_compare.base.escapes import shown
 from aide_compare.base.words import SEVERITIES
@@ -93,13 +93,12 @@ digest_digits = matching(
 )
 
 
-class AlarmLimit:
+class AlarmLimit(NamedTuple):
     """From where on a check is WARNING or CRITICAL: a number of changes that are not silent, or, if
     that is 0, the least severity of one."""
 
-    def __init__(self, changes: int, severity: str) -> None:
-        self.changes = changes
-        self.severity = severity
+    changes: int
+    severity: str
 
 
 def alarm_limit(text: str) -> AlarmLimit:

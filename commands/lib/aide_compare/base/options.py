@@ -36,7 +36,6 @@ class Option(NamedTuple):
     letter: str = ""  # Such as "-c".
     is_repeated: bool = False  # Its value is the list of all that were given.
     is_single: bool = False  # It may be given once only.
-    group: str = ""  # Of options that exclude one another.
     number_of_values: int = 1  # With more, `metavar` has a word for each.
 
     @property
@@ -88,9 +87,6 @@ class Asked:
 
     def __init__(self, **values: object) -> None:
         vars(self).update(values)
-
-    def __eq__(self, other: object) -> bool:
-        return type(other) is type(self) and vars(other) == vars(self)
 
     def but(self: Asks, **values: object) -> Asks:
         """The same with other values."""

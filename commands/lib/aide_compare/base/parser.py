@@ -136,16 +136,12 @@ class Parser(argparse.ArgumentParser):
 
     def add_rows(self, rows: Mapping[str, Option | Operand]) -> None:
         """Adds options and operands, whose values are those of these fields."""
-        groups: dict[str, argparse._ArgumentGroup] = {}
         for field, row in rows.items():
             if isinstance(row, Operand):
                 self.add_argument(field, **words_of_operand(row))
                 continue
             names = [each for each in (row.letter, row.name) if each]
-            target: argparse._ActionsContainer = self
-            if row.group:
-                target = groups.setdefault(row.group, self.add_mutually_exclusive_group())
-            target.add_argument(*names, **words_of_option(row, field))
+            self.add_argument(*names, **words_of_option(row, field))
 
     def parse(self, arguments: Sequence[str]) -> Given:
         """What the arguments give; options and operands may stand in any order, and after -- there

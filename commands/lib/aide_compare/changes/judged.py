@@ -58,10 +58,9 @@ class Judged:
     def group_by(self, records: Dpkg | Rpm, has_pair: bool) -> None:
         """Finds out which changes are as the packages' records of this machine have them.
         `has_pair`: a trusted pair says which of the records are signed."""
-        matcher = Matcher(records, usr_of(link_here), self.read)
         try:
-            matcher.match(self.table)
-            self.named = records.named(self.table, matcher.kinds, has_pair)
+            Matcher(records, usr_of(link_here), self.read).match(self.table)
+            self.named = records.named(self.table, has_pair)
         except BaseException:
             self.table.forget_records()
             raise

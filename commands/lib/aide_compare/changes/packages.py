@@ -49,8 +49,6 @@ Members = dict[bytes, list[Member]]
 Wanted = set[bytes]
 # Of a paragraph of dpkg's status.
 Fields = dict[bytes, bytes]
-# The kinds of the recorded changes of each package.
-Kinds = dict[str, set[str]]
 # The packages that people hear of first, by the title above them.
 Named = dict[str, list[str]]
 
@@ -153,7 +151,7 @@ class Dpkg:
                 names = [name for name in os.listdir(info) if name.endswith(LIST)]
         return [name[: -len(LIST)] for name in sorted(names)[:MAX_FILES]]
 
-    def named(self, changes: Table, _kinds: Kinds, has_pair: bool) -> Named:
+    def named(self, changes: Table, has_pair: bool) -> Named:
         """The packages whose list came or went, and, beside a trusted pair, those whose digests are
         not as in it."""
         return named_packages(self._named_rows(changes, has_pair))

@@ -9,7 +9,7 @@ from contextlib import suppress
 from aide_compare.base.ending import Fault
 from aide_compare.base.files import BLOCK, open_regular
 from aide_compare.base.paths import path_of
-from aide_compare.changes.packages import Dpkg, Kinds, Member, Members
+from aide_compare.changes.packages import Dpkg, Member, Members
 from aide_compare.changes.rpm import Rpm
 from aide_compare.changes.table import Row, Table
 from aide_compare.lines.attributes import COLUMNS_OF_DIGESTS
@@ -117,8 +117,6 @@ class Matcher:
         self.read = read
         self.contents = Contents()
         self.members: Members = {}
-        # Of each package with a recorded change: the kinds of these.
-        self.kinds: Kinds = {}
 
     def match(self, changes: Table) -> None:
         """Notes the changes that are recorded, with their package."""
@@ -145,7 +143,6 @@ class Matcher:
         for member in self.members[row.path]:
             if self._has(change, member):
                 changes.record(row.place, member.package)
-                self.kinds.setdefault(member.package, set()).add(row.kind)
                 return
 
     def _has(self, change: Change, member: Member) -> bool:

@@ -10,15 +10,12 @@ from aide_compare.base.ending import Fault, Status, failing
 from aide_compare.base.processes import run
 from aide_compare.changes import packages
 from aide_compare.changes.packages import (
-    NEW,
     Dpkg,
-    Kinds,
     Member,
     Members,
     Named,
     Wanted,
     add_member,
-    named_packages,
     words_of,
 )
 from aide_compare.changes.table import Table
@@ -83,10 +80,9 @@ class Rpm:
                 add_member(members, usr(fields[1]), member)
         return members
 
-    def named(self, _changes: Table, kinds: Kinds, _has_pair: bool) -> Named:
-        """The packages of which each recorded path came. rpm keeps nothing of those that went."""
-        came = sorted(package for package, found in kinds.items() if found == {"added"})
-        return named_packages((NEW, package.partition(" ")[0]) for package in came)
+    def named(self, _changes: Table, _has_pair: bool) -> Named:
+        """rpm's database is one file, which says of no package that it came or went."""
+        return {}
 
 
 def records_of_host() -> Dpkg | Rpm | None:

@@ -109,7 +109,7 @@ def lines_of(request: AcceptRequest, accepted: Accepted) -> Iterator[str]:
     yield title_line(request, accepted)
     written = accepted.new.written
     date = "at an unknown time" if written is None else date_of(int(written))
-    yield f"new: SHA-256 {accepted.new.sha256}, written {date}"
+    yield f"new: SHA-256 {accepted.new.sha256}, {request.came} {date}"
     if accepted.merged:
         kinds = ", ".join(f"{kind} {accepted.merged.counts[kind]}" for kind in KINDS)
         former_entries = f"it has the former entries of what stays open: {kinds}"

@@ -28,6 +28,7 @@ class AcceptRequest(NamedTuple):
     digest: str  # The first digits of the SHA-256 of the new database.
     keep_open: Sequence[Pattern]
     max_size: int
+    came: str = "written"  # What the time of the new database says.
 
 
 def packed(copy: Copy) -> int:

@@ -27,7 +27,7 @@ COMMANDS = (
 # These are comparisons with an output.
 SHORT = {"json": ("--json", "-"), "page": ("--page", "-")}
 # Of these the module begins with hosts_.
-HOSTS = ("add", "list", "remove", "fetch", "compare", "accept", "report")
+HOSTS = ("add", "list", "remove", "compare", "accept", "report")
 PROGRAM_JOBS = {"-E", "-D", "--compare", "--config-check"}
 USAGE = """\
 usage: aide-compare [compare] [OPTIONS] [OLD NEW]
@@ -56,12 +56,11 @@ HOSTS_USAGE = """\
 usage: aide-compare hosts add [OPTIONS] HOST ...        new hosts: asks first
        aide-compare hosts list [OPTIONS] [FILE]         all and their results
        aide-compare hosts remove [OPTIONS] HOST         a host that is gone
-       aide-compare hosts fetch [OPTIONS] HOST          its new database, by ssh
        aide-compare hosts compare [OPTIONS] [FILE]      fetch and compare all
        aide-compare hosts accept [OPTIONS] HOST         a new baseline of a host
        aide-compare hosts report [OPTIONS] [FILE]       what differs on all
 
-Options: aide-compare hosts fetch --help. The manual: man aide-compare-hosts
+Options: aide-compare hosts add --help. The manual: man aide-compare-hosts
 """
 HELP = ("--help", "-h")
 WORDS = (*COMMANDS, "hosts", "help")

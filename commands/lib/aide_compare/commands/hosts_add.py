@@ -1,5 +1,5 @@
-"""aide-compare hosts add: fetches the first database of a host, asks, and watches the host from
-then on."""
+"""aide-compare hosts add: fetches the first database of a host, asks whether it is the right one, or
+is told its SHA-256, and watches the host from then on."""
 from __future__ import annotations
 
 import os
@@ -7,24 +7,26 @@ from collections.abc import Sequence
 from functools import partial
 
 from aide_compare.base.ending import Fault, Status, status_of, tell
-from aide_compare.base.options import HOST_STORE, HOST_TIME, HOSTS_FILE, Asked, Operand
+from aide_compare.base.options import HOST_STORE, HOST_TIME, HOSTS_FILE, SHA256, Asked, Operand
 from aide_compare.base.options import field, option
 from aide_compare.base.parser import read
 from aide_compare.base.processes import limit_memory
 from aide_compare.base.terminal import answer_to
+from aide_compare.compare.soundness import refuse_unsound
+from aide_compare.compare.unpack import copy_database
 from aide_compare.hosts.fetching import DATABASE, ask_for_key, fetch
-from aide_compare.hosts.first_baseline import first_database, keep_first
 from aide_compare.hosts.hosts_file import add_host
-from aide_compare.hosts.store import MAX_MEMORY, HostDirectory
+from aide_compare.hosts.store import BASELINE, MAX_BASELINE, MAX_MEMORY, NEW, HostDirectory
+from aide_compare.hosts.store import write_cause
 
 NAME = "aide-compare hosts add"
 DESCRIPTION = """\
 Fetches the first database of each HOST by ssh, which asks for itself if it does not know the key of
 HOST. Then it shows the SHA-256 of the database, and asks. After yes the database is the baseline,
-and HOST is in the file of hosts."""
+and HOST is in the file of hosts. With a SHA-256 nothing is asked."""
 EPILOG = """Status, the highest of all hosts: 0 HOST is watched; 15 bad arguments, or no terminal;
-18 nothing was fetched; 24 the answer was no, there is a baseline of HOST already, or it sent no
-sound database."""
+18 nothing was fetched; 24 the answer was no, it is another database, there is a baseline of HOST
+already, or it sent no sound database."""
 
 
 class AddRequest(Asked):
@@ -35,27 +37,46 @@ class AddRequest(Asked):
     hosts_file: str = option(
         "--hosts-file", f"the file that gets the names ({HOSTS_FILE})", "FILE", default=HOSTS_FILE
     )
+    digest: str | None = field(
+        SHA256, help="of one HOST: what its own zcat -f FILE | sha256sum has said"
+    )
     hosts: Sequence[str] = field(Operand("HOST", "its name for ssh", "+"))
 
 
-def add(request: AddRequest, host: str) -> int:
-    """Fetches from a host, asks, and keeps it after yes."""
-    directory = HostDirectory(request.store, host, request.seconds)
-    directory.refuse_baseline()
-    ask_for_key(directory)
-    fetch(directory, 1)
-    copy = first_database(directory)
+def ask(host: str, sha256: str) -> None:
+    """Shows what was fetched from a host. Any other answer than yes is a Fault."""
     tell(
-        f"The database of {directory.host} has this SHA-256:",
-        f"    {copy.sha256}",
-        f"Compare with what this says on {directory.host}:",
+        f"The database of {host} has this SHA-256:",
+        f"    {sha256}",
+        f"Compare with what this says on {host}:",
         f"    zcat -f {DATABASE} | sha256sum",
     )
-    question = f"Is it the same? Then {directory.host} is watched from now on. yes or no: "
+    question = f"Is it the same? Then {host} is watched from now on. yes or no: "
     if answer_to(question) != "yes":
         raise Fault(Status.DATABASE, "the answer was not yes: nothing was added")
+
+
+def add(request: AddRequest, host: str) -> int:
+    """Fetches from a host, and keeps it if it is the right database. A baseline that is there
+    already is never replaced."""
+    directory = HostDirectory(request.store, host, request.seconds)
+    if directory.has(BASELINE):
+        raise directory.fault("has a baseline already; nothing was accepted", Status.DATABASE)
+    if not request.digest:
+        ask_for_key(directory)
+    fetch(directory, 1)
+    copy = copy_database("new", directory.file(NEW), MAX_BASELINE)
+    refuse_unsound(copy)
+    if not request.digest:
+        ask(directory.host, copy.sha256)
+    elif not copy.sha256.startswith(request.digest):
+        text = f"sent another database, with the SHA-256 {copy.sha256}: nothing was added"
+        raise directory.fault(text, Status.DATABASE)
     add_host(directory.host, request.hosts_file)
-    keep_first(directory)
+    try:
+        directory.copy(NEW, BASELINE)
+    except OSError as error:
+        raise directory.fault(f"cannot keep its baseline: {write_cause(error)}")
     if not request.is_quiet:
         tell(f"{directory.host} is watched. Compare all hosts: aide-compare hosts compare")
     return Status.OK
@@ -64,8 +85,9 @@ def add(request: AddRequest, host: str) -> int:
 def main(arguments: Sequence[str]) -> int:
     usage = f"{NAME} [OPTIONS] HOST ..."
     request = read(AddRequest, arguments, NAME, DESCRIPTION, EPILOG, usage)
-    if not os.isatty(0):
-        how = "without one: aide-compare hosts fetch, then aide-compare hosts accept --first"
-        raise Fault(Status.USAGE, "it asks a question, so it needs a terminal", how)
+    if request.digest and len(request.hosts) > 1:
+        raise Fault(Status.USAGE, "--sha256 is that of one HOST")
+    if not request.digest and not os.isatty(0):
+        raise Fault(Status.USAGE, "it asks a question, so it needs a terminal, or --sha256")
     limit_memory(MAX_MEMORY)
     return max([status_of(partial(add, request, host)) for host in request.hosts])

@@ -65,12 +65,10 @@ class ReportRequest(Asked):
         "--format",
         "text (the default), brief: 80 lines, json: an object a line, or page: for a browser",
         choices=("text", "brief", "json", "page"),
-        group="output",
     )
     address: str | None = field(
         TO,
         help="mail the brief text, if a host differs or was not compared",
-        group="output",
     )
     has_page: bool = field(ATTACH_PAGE, help="with --to: attach the page to the text")
     mail_seconds: int = field(MAIL_TIME)
@@ -179,6 +177,8 @@ def encoded(line: str) -> bytes:
 def request_of(arguments: Sequence[str]) -> ReportRequest:
     usage = f"{NAME} [OPTIONS] [HOSTS-FILE]"
     request = read(ReportRequest, arguments, NAME, DESCRIPTION, EPILOG, usage)
+    if request.format and request.address:
+        raise Fault(Status.USAGE, "--format does not go with --to", f"try: {NAME} --help")
     of_mail = {
         ATTACH_PAGE.name: request.has_page,
         WEEKLY.name: request.weekly,

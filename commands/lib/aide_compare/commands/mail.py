@@ -2,7 +2,6 @@
 from __future__ import annotations
 
 import os
-import re
 import shlex
 import time
 from collections.abc import Callable, Sequence
@@ -11,7 +10,6 @@ from functools import partial
 from typing import NamedTuple
 
 from aide_compare.base.ending import Fault, Status
-from aide_compare.base.kinds import UNIT_NAME
 from aide_compare.base.options import DAYS
 from aide_compare.base.replacement import Replacement
 from aide_compare.base.rights import become_owner, give_up
@@ -111,27 +109,19 @@ def compare_and_mail(request: MailRequest) -> int:
     return state.told_status
 
 
-def failure_text(request: MailRequest) -> str:
-    """What a mail says of the unit that should have queued one and has failed; "" if none has. The
-    command line says which unit it is; systemd 251 and later say how it failed by variables, which
-    are enough without the option too."""
-    name = request.unit_failed or ""
-    how = ""
-    result = os.environ.get("MONITOR_SERVICE_RESULT", "success")
-    if result != "success":
-        unit = os.environ.get("MONITOR_UNIT", "")
-        name = name or (unit if re.fullmatch(UNIT_NAME, unit) else "a unit")
-        how = f": {result}, status {os.environ.get('MONITOR_EXIT_STATUS', 'unknown')}"
-    if not name:
-        return ""
-    return f"{name} failed{how}. Its lines: journalctl -u {shlex.quote(name)}\n"
+def failure_text(unit: str) -> str:
+    """What a mail says of the unit that should have queued one and has failed. systemd 251 and
+    later say how, by variables."""
+    result = os.environ.get("MONITOR_SERVICE_RESULT")
+    how = f": {result}, status {os.environ.get('MONITOR_EXIT_STATUS')}" if result else ""
+    return f"{unit} failed{how}. Its lines: journalctl -u {shlex.quote(unit)}\n"
 
 
 def empty_queue(request: MailRequest, directory: str) -> int:
     """Sends what waits, and first that the unit that should have queued a mail has failed."""
     way = way_of(request)
-    text = failure_text(request)
-    if text:
+    if request.unit_failed:
+        text = failure_text(request.unit_failed)
         deliver(way, short_mail(request, "the comparison failed", text))
     send_all(directory, way)
     return Status.OK

@@ -63,7 +63,7 @@ def lines_of_mail(
     warnings = [guarded(warning) for warning in comparison.warnings]
     if not comparison.differs:
         return [*note_lines(warnings), *note_lines(notes)]
-    mail = Mail(comparison.state(), warnings, notes, request.has_options)
+    mail = Mail(comparison.state(), warnings, notes)
     if judged is None:
         lines = comparison.known_lines()
         changes = whole_changes(reader_over(lines.fd))

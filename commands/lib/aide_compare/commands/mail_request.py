@@ -12,7 +12,6 @@ from aide_compare.base.options import (
     MAIL_TIME,
     TO,
     WEEKLY,
-    Asked,
     field,
     option,
 )
@@ -28,8 +27,6 @@ silent, or with the errors if nothing was compared."""
 EPILOG = """\
 Status: that of aide-compare-compare(1); 18 if no mail can be sent. With --alarm-sent-is-success
 it is 0 if the mail was sent or kept in the queue."""
-# What the command that a mail names does without.
-NO_OPTIONS = {*Asked.rows(), "databases", "state", "user"}
 
 
 class MailRequest(CompareRequest):
@@ -49,7 +46,6 @@ class MailRequest(CompareRequest):
         "--alarm-sent-is-success", "end with 0 also after differences or errors that were mailed"
     )
     fault: Fault | None  # Of the defaults: it is mailed.
-    has_options: bool  # Whether the command line has options of the comparison.
     notes: Sequence[str]  # What has to be said of the defaults.
 
 
@@ -89,5 +85,4 @@ def request_of(words: Sequence[str]) -> MailRequest:
             say(error.text)
     request = filled(MailRequest, given, defaults)
     check(request, given)
-    own = CompareRequest.rows().keys() - NO_OPTIONS
-    return request.but(fault=fault, has_options=not own.isdisjoint(given), notes=notes)
+    return request.but(fault=fault, notes=notes)

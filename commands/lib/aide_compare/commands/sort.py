@@ -110,7 +110,7 @@ def say_repeated(rows: Rows) -> bool:
         if count <= MAX_NAMED:
             say(f"appears twice: {shown(path_of(key))}")
     if count > MAX_NAMED:
-        say(f"more paths that appear twice: {count - MAX_NAMED:,}")
+        say(f"more paths that appear twice: {count - MAX_NAMED}")
     return count > 0
 
 
@@ -123,7 +123,7 @@ def sort(request: SortRequest) -> int:
     write_blocks(1, (line for (line,) in rows.ask(IN_ORDER)))
     progress.note_step("the lines are in order")
     if not request.is_quiet:
-        say(f"out of order: {database.breaks:,} of {database.count:,} lines")
+        say(f"out of order: {database.breaks} of {database.count} lines")
         if database.breaks:
             say(ADVICE)
     return Status.DATABASE if say_repeated(rows) else Status.OK

@@ -56,7 +56,8 @@ ENTRIES = {
     "end_time_seconds": "When the last run ended, in seconds since 1970.",
 }
 CHANGES = {
-    "same": "Changes of times, inode and digests that one side lacks, which are silent.",
+    "same": "Changes of times, inode, blocks, the size of a directory and digests that one side"
+    " lacks, which are silent.",
     "trusted": "Changes as between the trusted databases, which are silent.",
     "left_out": "Changes that a line of the list leaves out, which are silent.",
     "recorded": "Changes as a package's records on the host have them.",

@@ -16,11 +16,10 @@ from aide_compare.base.replacement import replace
 from aide_compare.base.words import TRUSTED_SIDES
 from aide_compare.compare.state import State, read_state
 from aide_compare.compare.unpack import Copy, copy_database
-from aide_compare.hosts.first_baseline import MAX_BASELINE
-from aide_compare.hosts.host_comparison import Settings
+from aide_compare.hosts.host_comparison import HostsRequest
 from aide_compare.hosts.hosts_read import KeptChanges, host_of
 from aide_compare.hosts.reported import WHOLE, Host
-from aide_compare.hosts.store import BASELINE, NEW, HostDirectory
+from aide_compare.hosts.store import BASELINE, MAX_BASELINE, NEW, HostDirectory
 
 # In the store what the last run over its hosts knew of its canary.
 RUN = "canary"
@@ -52,11 +51,11 @@ def refuse_cut(directory: HostDirectory, state: State) -> None:
         raise directory.fault(f"only {listed} of its changes are listed, so it says too little")
 
 
-def trusted_pair(host: str, settings: Settings) -> tuple[Run, Mapping[str, Copy]]:
+def trusted_pair(host: str, request: HostsRequest) -> tuple[Run, Mapping[str, Copy]]:
     """What there is to note of a canary that was compared just now, and the databases that the
     other hosts are compared beside."""
     copies = {}
-    with closing(HostDirectory(settings.store, host, settings.seconds)) as directory:
+    with closing(HostDirectory(request.store, host, request.seconds)) as directory:
         state = read_state(directory.state_path)
         refuse_cut(directory, state)
         digests = (state.old_sha256, state.new_sha256)

@@ -4,11 +4,26 @@ from __future__ import annotations
 
 import os
 import time
-from collections.abc import Mapping
+from collections.abc import Mapping, Sequence
 from contextlib import closing
-from typing import NamedTuple
 
 from aide_compare.base.ending import Fault, Status
+from aide_compare.base.kinds import duration
+from aide_compare.base.options import (
+    CONFIG,
+    EXCLUDE,
+    EXCLUDE_FROM,
+    HOST_STORE,
+    HOST_TIME,
+    HOSTS_OPERAND,
+    JOBS,
+    MAX_SIZE,
+    NO_DEFAULTS,
+    QUIET,
+    Asked,
+    field,
+    option,
+)
 from aide_compare.base.replacement import NewFile, replace
 from aide_compare.compare import work
 from aide_compare.compare.comparison import Comparison, Request
@@ -16,9 +31,9 @@ from aide_compare.compare.configuration import NONE
 from aide_compare.compare.exclusions import Exclusions
 from aide_compare.compare.state import State
 from aide_compare.compare.unpack import Copy, copy_database
-from aide_compare.hosts.first_baseline import MAX_BASELINE
 from aide_compare.hosts.kept_lines import write_kept
-from aide_compare.hosts.store import BASELINE, ERRORS, LINES, NEW, HostDirectory, write_cause
+from aide_compare.hosts.store import BASELINE, ERRORS, LINES, MAX_BASELINE, NEW, HostDirectory
+from aide_compare.hosts.store import check_name, write_cause
 from aide_compare.show.told import told_of
 
 # Without --max-size a new database may always have so many bytes, and so many times those of the
@@ -30,37 +45,62 @@ GROWTH = 4
 MAX_JUDGED = 256 << 20
 MAX_KEPT = 4 << 20
 MAX_AHEAD = 600
+SAME_FOR = 50 * 3600
 
 
-class Settings(NamedTuple):
-    """How hosts are compared: what the options of the command say."""
+class HostsRequest(Asked):
+    """What the options of `hosts compare` ask for, and what is beside them."""
 
-    store: str
-    seconds: int
-    jobs: int
-    configuration: str | None
+    is_quiet: bool = field(
+        QUIET,
+        help="only hosts with changes that are not silent, or not compared, and a summary",
+    )
+    store: str = field(HOST_STORE)
+    seconds: int = field(HOST_TIME)
+    jobs: int = field(JOBS)
+    no_fetch: bool = option("--no-fetch", "compare what was fetched before")
+    canary: str | None = option(
+        "--canary",
+        "compared first; what changed there in the same way is silent on all other hosts",
+        "HOST",
+        kind=check_name,
+    )
+    configuration: str | None = field(CONFIG, help="a configuration of this machine (none)")
+    exclude_from: Sequence[str] = field(EXCLUDE_FROM)
+    exclude: Sequence[str] = field(EXCLUDE)
+    no_defaults: bool = field(NO_DEFAULTS)
+    max_size: int = field(
+        MAX_SIZE,
+        default=0,
+        help="the most bytes of the unpacked database (4 times the baseline, at least 64M)",
+    )
+    same_for: int = option(
+        "--same-for",
+        "how long a host may send the same bytes (50h; 0: no limit)",
+        "TIME",
+        kind=duration,
+        default=SAME_FOR,
+    )
+    hosts_file: str = field(HOSTS_OPERAND)
     exclusions: Exclusions | None
-    max_size: int  # 0: by the size of the baseline.
-    same_for: int  # A host may send the same bytes for so many seconds; 0: without end.
-    fetches: bool
     trusted: Mapping[str, Copy]  # The pair of the canary, if there is one.
     max_kept: int  # Of the lines of a host.
 
 
-def run_comparison(directory: HostDirectory, settings: Settings, part: NewFile) -> Comparison:
+def run_comparison(directory: HostDirectory, request: HostsRequest, part: NewFile) -> Comparison:
     """The Comparison, with its lines in the part. What ended it is a Fault."""
     old = copy_database("old", directory.file(BASELINE), MAX_BASELINE)
-    max_size = settings.max_size or max(GROWTH * old.size, MIN_SIZE)
+    max_size = request.max_size or max(GROWTH * old.size, MIN_SIZE)
     new = copy_database("new", directory.file(NEW), max_size)
     comparison = work.compare(
         Request(
             old=directory.file(BASELINE),
             new=directory.file(NEW),
-            configuration=settings.configuration or NONE,
-            copies={"old": old, "new": new, **settings.trusted},
-            exclusions=settings.exclusions,
+            configuration=request.configuration or NONE,
+            copies={"old": old, "new": new, **request.trusted},
+            exclusions=request.exclusions,
             target=part.fd,
-            max_report=min(MAX_JUDGED, directory.room(settings.jobs)),
+            max_report=min(MAX_JUDGED, directory.room(request.jobs)),
         )
     )
     if comparison.fault:
@@ -69,11 +109,11 @@ def run_comparison(directory: HostDirectory, settings: Settings, part: NewFile) 
 
 
 def keep_findings(
-    directory: HostDirectory, settings: Settings, comparison: Comparison
+    directory: HostDirectory, request: HostsRequest, comparison: Comparison
 ) -> None:
     """Keeps the changes that are not silent. The comparison gets their standings."""
     with closing(NewFile(directory.fd)) as part:
-        limit = min(settings.max_kept, directory.room(settings.jobs))
+        limit = min(request.max_kept, directory.room(request.jobs))
         comparison.standings = write_kept(part.fd, comparison, limit)
         if comparison.standings:
             part.put(LINES)
@@ -81,17 +121,17 @@ def keep_findings(
             comparison.doubts.append("the changes are too many to be judged")
 
 
-def age_fault(directory: HostDirectory, settings: Settings) -> str:
+def age_fault(directory: HostDirectory, request: HostsRequest) -> str:
     """Why what was fetched is not the database of today; "" if it is."""
     cause = directory.fetch_cause()
     if cause:
         return f"it was not fetched the last time: {cause}"
     age = time.time() - os.stat(NEW, dir_fd=directory.fd).st_mtime
-    if not settings.same_for or -MAX_AHEAD <= age <= settings.same_for:
+    if not request.same_for or -MAX_AHEAD <= age <= request.same_for:
         return ""
     if age < 0:
         return "its database was fetched in the future; is the clock of this host right?"
-    hours = settings.same_for // 3600
+    hours = request.same_for // 3600
     return f"has sent the same database for more than {hours} hours; does AIDE run there?"
 
 
@@ -105,22 +145,22 @@ def as_not_compared(directory: HostDirectory, state: State, why: str) -> State:
     return no_counts._replace(status=int(Status.DEVICE), error=text)
 
 
-def keep_comparison(directory: HostDirectory, settings: Settings) -> State:
+def keep_comparison(directory: HostDirectory, request: HostsRequest) -> State:
     """Compares, keeps lines and errors, and returns the State."""
     if not directory.has(NEW):
-        cause = directory.fetch_cause() or "see aide-compare hosts fetch --help"
+        cause = directory.fetch_cause() or "see aide-compare hosts compare --help"
         raise Fault(Status.DEVICE, f"nothing was fetched yet: {cause}")
     if not directory.has(BASELINE):
         text = "there is no baseline yet; see aide-compare hosts add --help"
         raise Fault(Status.DEVICE, text)
     with closing(NewFile(directory.fd)) as part:
-        comparison = run_comparison(directory, settings, part)
+        comparison = run_comparison(directory, request, part)
         directory.remove(LINES)
         if comparison.differs:
-            keep_findings(directory, settings, comparison)
+            keep_findings(directory, request, comparison)
     state = comparison.state()
     errors = told_of(comparison)
-    why = age_fault(directory, settings)
+    why = age_fault(directory, request)
     if why:
         state = as_not_compared(directory, state, why)
         errors += state.error + "\n"
@@ -128,11 +168,11 @@ def keep_comparison(directory: HostDirectory, settings: Settings) -> State:
     return state
 
 
-def compare(directory: HostDirectory, settings: Settings) -> State:
+def compare(directory: HostDirectory, request: HostsRequest) -> State:
     """Compares, and keeps lines, errors and the state, which says so too if that fails. The program
     ends with this process."""
     try:
-        state = keep_comparison(directory, settings)
+        state = keep_comparison(directory, request)
         replace(directory.state_path, state.text(), what="the state")
         return state
     except OSError as error:

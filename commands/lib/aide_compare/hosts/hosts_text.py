@@ -76,7 +76,8 @@ def host_lists(hosts: Iterable[Host]) -> dict[str, list[str]]:
         if host.status > 7:
             missing.append(f"{host.name}: {host.error}")
         elif host.differs and host.state:
-            differ.append(f"{host.name}: {words_of(host.state)}")
+            digest = f"SHA-256 {host.state.new_sha256}"
+            differ.append(f"{host.name}: {words_of(host.state)}; {digest}")
             if host.report in WHY:
                 cut.append(not_listed(host))
     return {

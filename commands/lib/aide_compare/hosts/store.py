@@ -17,6 +17,7 @@ from aide_compare.compare.state import State
 
 # What a process may take of memory for one host, beside what it has when its work begins.
 MAX_MEMORY = 64 << 20
+MAX_BASELINE = 4 << 30
 MAX_CAUSE = 5000
 # The files of a host. The last one has the cause why the host could not be fetched the last time.
 NEW = "aide.db.new"
@@ -80,11 +81,6 @@ class HostDirectory:
 
     def has(self, name: str) -> bool:
         return os.path.lexists(self.file(name))
-
-    def refuse_baseline(self) -> None:
-        """A Fault if the host has a baseline."""
-        if self.has(BASELINE):
-            raise self.fault("has a baseline already; nothing was accepted", Status.DATABASE)
 
     def remove(self, name: str) -> None:
         unlink(name, self.fd)

@@ -26,7 +26,7 @@ Fields = Dict[str, Any]
 class Standing(Enum):
     """How a change stands. The words are those of every text, page, line and state file."""
 
-    SAME = "same"  # The entry is as it was, but for times, inode and digests that one side lacks.
+    SAME = "same"  # The entry is as it was, but for what its host makes of it, such as times.
     TRUSTED = "trusted"  # A machine, or a signed archive, that is trusted changed in the same way.
     LEFT_OUT = "left out"  # A line of the administrator's list names it, and it gives no right.
     RECORDED = "recorded"  # A package's records on the host have this content, unsigned.

@@ -60,7 +60,6 @@ class Mail(NamedTuple):
     state: State
     warnings: Sequence[str]
     notes: Sequence[str]
-    has_options: bool  # Whether its command line had options of the comparison.
 
 
 def text_of_changes(mail: Mail, judged: Judged) -> list[str]:
@@ -71,9 +70,7 @@ def text_of_changes(mail: Mail, judged: Judged) -> list[str]:
 
 def end_lines(mail: Mail) -> list[str]:
     """The two commands, and the notes."""
-    title = "All changes with their values, as a page:"
-    if mail.has_options:
-        title = "All changes with their values, as a page (add the options of this job):"
+    title = "All changes with their values, as a page (with the options of this job):"
     words = ["aide-compare", "page", *names_of(mail.state, "old", "new")]
     lines = [title, *command_lines(words, "> changes.html"), *accept_lines(mail.state)]
     notes = note_lines(mail.notes)

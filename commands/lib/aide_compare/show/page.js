@@ -4,11 +4,12 @@ const PAGE = 100, FEW = 3, PACKAGES = 4;
 const ORDERS = { importance: 'what matters most', size: 'change of size' };
 const TITLES = {
   open: 'Open', recorded: 'Recorded', trusted: 'Trusted: changed in the same way in the trusted pair',
-  'left out': 'Left out by a line of the list', same: 'Same as before, but for times, inode and a digest that one side lacks',
+  'left out': 'Left out by a line of the list',
+  same: 'Same as before, but for times, inode, blocks, the size of a directory and a digest that one side lacks',
 };
 const HINT = 'Open: all that is not one of the following. Recorded: a package\'s records on the host have this content. Whoever was '
-  + 'root there can write such records, so they only shorten what you read. Same: the old entry, but for times, inode and a digest '
-  + 'that one side lacks. Trusted: it changed in the same way in the trusted pair. Left out: a line of the list names it.';
+  + 'root there can write such records, so they only shorten what you read. Same: the old entry, but for times, inode, blocks, '
+  + 'the size of a directory and a digest that one side lacks. Trusted: it changed in the same way in the trusted pair. Left out: a line of the list names it.';
 const find = (id) => document.getElementById(id), on = (target, event, act) => target.addEventListener(event, act);
 const number = new Intl.NumberFormat('en').format;
 const entriesOf = (count) => count === 1 ? '1 entry' : number(count) + ' entries';

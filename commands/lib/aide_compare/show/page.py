@@ -54,7 +54,7 @@ MAX_PAGE = 20000000
 RESERVE = 8000
 MAX_DIGEST = 200000
 MAX_NAME = 1000
-MAX_COLUMNS = 20
+MAX_NOTES = 20
 BESIDE = len(b"[,],\n")
 # Of a value of a host.
 MAX_VALUE = 100000
@@ -217,9 +217,7 @@ def heading_of(comparison: Comparison, rows: Rows, title: str) -> Fields:
     remarks = rows.remarks()
     if counts.left_out:
         remarks.insert(0, f"{counts.left_out_words().capitalize()}.")
-    names = dict.fromkeys(name for side in comparison.skipped.values() for name in side)
-    for name in list(names)[:MAX_COLUMNS]:
-        remarks.append(f"The column {guarded(name)} is not compared: the program does not know it.")
+    remarks += [guarded(note[:1].upper() + note[1:]) for note in comparison.notes[:MAX_NOTES]]
     total = f"{end.total:,} in the new database"
     return {
         "title": title,
