@@ -92,12 +92,12 @@ class FrontTest(CommandTest):
     def test_misspelt(self) -> None:
         """What is no subcommand ends with 15, and so does what is no option; nothing is compared."""
         for words, near in (
-            ("jsno", b"try: aide-compare --help\n"),
-            ("stauts --max-age=1h", b"try: aide-compare --help\n"),
+            ("jsno", b"name both databases, OLD and NEW, or none\n"),
+            ("stauts --max-age=1h", b"try: aide-compare compare --help\n"),
             ("hosts fecth www", b"try: aide-compare hosts --help\n"),
             ("help acept", b"try: aide-compare help --help\n"),
-            ("diff old.db new.db", b": aide-compare --help\n"),
-            ("report old.db new.db", b": aide-compare --help\n"),
+            ("diff old.db new.db", b"more than two databases: new.db\n"),
+            ("report old.db new.db", b"try: aide-compare compare --help\n"),
             ("hosts --nonsense", b": aide-compare hosts --help\n"),
             ("--reprot old.db new.db", b"unrecognized arguments: --reprot\n"),
             ("sort --zzzzzz", b"try: aide-compare sort --help\n"),

@@ -94,7 +94,6 @@ class FilesTest(PlacesTest):
         self.fails(18, "more follows", copied, self.write("db", whole + b"x"))
         wrong_bit = whole[:-5] + bytes([whole[-5] ^ 1]) + whole[-4:]
         self.fails(18, "damaged", copied, self.write("db", wrong_bit))
-        self.fails(18, "compress", copied, self.write("db", b"\x1f\x9d" + text))
 
     def test_members(self) -> None:
         """AIDE writes one member of gzip. Others behind it are refused at once, however many."""

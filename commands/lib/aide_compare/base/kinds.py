@@ -83,11 +83,6 @@ UNIT_NAME = r"[A-Za-z0-9:_.\\@-]{1,255}"
 unit_name = matching(UNIT_NAME, "the name of a unit", str)
 
 
-def any_text(text: str) -> str:
-    """A text that may be empty."""
-    return text
-
-
 digest_digits = matching(
     "[0-9a-fA-F]{16,64}", "a SHA-256, as 16 to 64 hexadecimal digits", str.lower
 )

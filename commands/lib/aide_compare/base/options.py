@@ -11,7 +11,6 @@ from typing import Any, NamedTuple, TypeVar
 from aide_compare.base.kinds import (
     address,
     alarm_limit,
-    any_text,
     digest_digits,
     duration,
     file_path,
@@ -115,7 +114,7 @@ AFTER = Option(
     "--after",
     "lines to read after the configuration, as report_level=summary",
     metavar="TEXT",
-    kind=any_text,
+    kind=str,
     letter="-A",
     is_single=True,
 )

@@ -11,9 +11,7 @@ _since: float | None = None  # With -v, when the last step was done.
 def tell_steps(is_verbose: bool) -> None:
     """From now on each step is told when it is done: -v."""
     global _since
-    _since = None
-    if is_verbose:
-        _since = time.monotonic()
+    _since = time.monotonic() if is_verbose else None
 
 
 def note_step(step: str) -> None:

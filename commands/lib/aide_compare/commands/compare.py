@@ -72,7 +72,7 @@ class Printer:
         """The status of the command. A report has AIDE's."""
         if self.form == REPORT:
             return comparison.status
-        return comparison.told_status
+        return comparison.state().told_status
 
     def _printed(self, comparison: Comparison, judged: Optional[Judged]) -> Iterable[bytes]:
         """What was asked for. If the changes are not known, that is the report."""

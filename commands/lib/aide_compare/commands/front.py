@@ -3,7 +3,6 @@ proved program as it is."""
 from __future__ import annotations
 
 import os
-import re
 from collections.abc import Callable, Sequence
 from typing import NoReturn
 
@@ -64,7 +63,6 @@ Options: aide-compare hosts add --help. The manual: man aide-compare-hosts
 """
 HELP = ("--help", "-h")
 WORDS = (*COMMANDS, "hosts", "help")
-COMMAND_NAME = "[A-Za-z][A-Za-z-]{0,19}"
 
 
 def become_program(arguments: Sequence[str]) -> NoReturn:
@@ -121,22 +119,8 @@ def print_help(words: Sequence[str]) -> int:
     return main([words[0], "--help"])
 
 
-def first_word(arguments: Sequence[str]) -> str:
-    """The first word of a command line; "" if there is none."""
-    return next(iter(arguments), "")
-
-
-def is_misspelt(arguments: Sequence[str]) -> bool:
-    """Whether the first word seems to be meant as a subcommand, and not as a path."""
-    word = first_word(arguments)
-    if not re.fullmatch(COMMAND_NAME, word) or os.path.lexists(word):
-        return False
-    operands = [each for each in arguments if not each.startswith("-")]
-    return len(operands) != 2
-
-
 def main(arguments: Sequence[str]) -> int:
-    word = first_word(arguments)
+    word = next(iter(arguments), "")
     if word.startswith("-") and PROGRAM_JOBS & set(arguments):
         become_program(arguments)
     if word in HELP:
@@ -149,8 +133,6 @@ def main(arguments: Sequence[str]) -> int:
         return run_command("version", arguments[1:])
     if word in COMMANDS:
         return run_command(word, arguments[1:])
-    if is_misspelt(arguments):
-        refuse(word, "aide-compare")
     return run_command("compare", arguments)
 
 

@@ -37,7 +37,7 @@ from aide_compare.hosts.hosts_text import Report, headline, report_lines, short_
 from aide_compare.hosts.reported import CUT, UNREADABLE, HostCounts, Summary
 from aide_compare.lines.reader import ENCODE
 from aide_compare.mail.message import build, clean, within
-from aide_compare.mail.sending import Way, alert, deliver, way_out
+from aide_compare.mail.sending import alert, deliver, way_out
 
 NAME = "aide-compare hosts report"
 MAX_NAMES = 20  # Of the hosts of a change, for people.
@@ -93,71 +93,63 @@ def command_words(request: ReportRequest) -> list[str]:
 
 
 class HostsReport:
-    """The report: the summary, the hosts, and their changes in one table."""
+    """The report of all hosts, and the ways in which it is given."""
 
     def __init__(self, names: Sequence[str], request: ReportRequest) -> None:
         self.fleet = Fleet(names)
-        self.hosts = []
+        hosts = []
         for number, name in enumerate(names):
             take = partial(self.fleet.add, number)
             host = read_host(name, request.store, request.seconds, request.max_age, take)
-            self.hosts.append(host)
+            hosts.append(host)
         self.fleet.gather()
-        self.command = command_words(request)
-        self.worst = max(host.status for host in self.hosts)
-        notes = notes_of(request.store, self.hosts)
+        self.worst = max(host.status for host in hosts)
+        notes = notes_of(request.store, hosts)
         # Silent differences are no reason for a mail.
-        has_alarm = any(host.differs or host.status > 7 for host in self.hosts)
+        has_alarm = any(host.differs or host.status > 7 for host in hosts)
         self.is_alarm = has_alarm or notes.are_alarms
-        self.summary = Summary(
-            counts=HostCounts.of([(host.status, host.is_silent) for host in self.hosts]),
-            cut=sum(host.report == CUT for host in self.hosts),
-            not_listed=sum(host.report == UNREADABLE for host in self.hosts),
+        summary = Summary(
+            counts=HostCounts.of([(host.status, host.is_silent) for host in hosts]),
+            cut=sum(host.report == CUT for host in hosts),
+            not_listed=sum(host.report == UNREADABLE for host in hosts),
             changes=len(self.fleet.table),
             canary=notes.lines,
         )
-
-    def report(self) -> Report:
         shared = partial(self.fleet.shared, max_names=MAX_NAMES)
-        return Report(self.summary, self.hosts, self.fleet.table, shared, self.command)
+        self.report = Report(summary, hosts, self.fleet.table, shared, command_words(request))
 
     def json(self) -> Iterator[bytes]:
         """Yields the lines of JSON, the changes in the order of paths."""
-        for fields in (self.summary.fields(), *(host.fields() for host in self.hosts)):
+        hosts = self.report.hosts
+        for fields in (self.report.summary.fields(), *(host.fields() for host in hosts)):
             yield ENCODE(fields).encode() + b"\n"
         for row in self.fleet.table.rows(order="place"):
-            yield ENCODE(self.fleet.shared(row, len(self.hosts)).fields).encode() + b"\n"
+            yield ENCODE(self.fleet.shared(row, len(hosts)).fields).encode() + b"\n"
 
     def brief(self) -> Iterator[bytes]:
         """Yields the lines of the short text."""
-        return map(encoded, short_lines(self.report()))
+        return map(encoded, short_lines(self.report))
 
     def send(self, request: ReportRequest, address: str) -> None:
-        """Sends one mail about all hosts, and none if there is nothing to say."""
+        """Sends one mail about all hosts; if there is nothing to say, a heartbeat if one is due."""
+        title = headline(self.report.summary)
         try:
             way = way_out(request.mail_seconds)
         except Fault as fault:
-            alert(f"{fault.text}; {headline(self.summary)}")
+            alert(f"{fault.text}; {title}")
             raise
         if not self.is_alarm:
             if request.weekly:
-                self._send_heartbeat(request.weekly, f"{request.store}/report.quiet", address, way)
+                counts = self.report.summary.counts
+                subject = f"aide on {counted(counts.hosts, 'host')}: nothing to read"
+                text = clean(f"{counts.headline()}, {counts.others()}\n")
+                beat = partial(deliver, way, build(address, subject, text))
+                send_heartbeat(f"{request.store}/report.quiet", request.weekly, beat)
             return
         attached = None
         if request.has_page:
-            attached = within(page(self.report(), MAX_MAILED_PAGE), 2 * MAX_MAILED_PAGE)
-        text = clean(b"".join(self.brief()))
-        deliver(way, build(address, headline(self.summary), text, attached))
-
-    def _send_heartbeat(self, day: str, path: str, address: str, way: Way) -> None:
-        """Sends a heartbeat if one is due."""
-        counts = self.summary.counts
-
-        def send(subject: str, text: str) -> None:
-            title = f"aide on {counted(counts.hosts, 'host')}: {subject}"
-            deliver(way, build(address, title, clean(text)))
-
-        send_heartbeat(path, day, f"{counts.headline()}, {counts.others()}\n", send)
+            attached = within(page(self.report, MAX_MAILED_PAGE), 2 * MAX_MAILED_PAGE)
+        deliver(way, build(address, title, clean(b"".join(self.brief())), attached))
 
     def parts(self, form: str) -> Iterable[bytes]:
         """The bytes of the report in a format."""
@@ -166,8 +158,8 @@ class HostsReport:
         if form == "json":
             return self.json()
         if form == "page":
-            return page(self.report())
-        return map(encoded, report_lines(self.report()))
+            return page(self.report)
+        return map(encoded, report_lines(self.report))
 
 
 def encoded(line: str) -> bytes:

@@ -7,7 +7,6 @@ import time
 from collections.abc import Callable, Sequence
 from contextlib import closing, suppress
 from functools import partial
-from typing import NamedTuple
 
 from aide_compare.base.ending import Fault, Status
 from aide_compare.base.options import DAYS
@@ -38,7 +37,7 @@ def short_mail(request: MailRequest, subject: str, text: str) -> bytes:
     return build(request.address, f"aide on {host_name()}: {subject}", clean(text))
 
 
-def send_heartbeat(path: str, day: str, text: str, send: Callable[[str, str], object]) -> None:
+def send_heartbeat(path: str, day: str, send: Callable[[], object]) -> None:
     """Sends a sign of life on its day, or a week after the last one. The time of an empty file says
     when that was."""
     today = time.localtime()
@@ -49,18 +48,11 @@ def send_heartbeat(path: str, day: str, text: str, send: Callable[[str, str], ob
     is_new_day = today[:3] != time.localtime(sent)[:3]
     if is_late or (is_new_day and DAYS[today.tm_wday] == day):
         with closing(Replacement(path, what="the file of the heartbeat").begin()) as file:
-            send("nothing to read", text)
+            send()
             file.commit(())
 
 
-class Outcome(NamedTuple):
-    """What a comparison has found, and its mail."""
-
-    state: State
-    message: bytes
-
-
-def compared(request: MailRequest) -> Outcome:
+def compared(request: MailRequest) -> tuple[State, bytes]:
     """Compares, and puts the mail together."""
     before = columns_before(request)
     mail: list[bytes] = []
@@ -69,11 +61,11 @@ def compared(request: MailRequest) -> Outcome:
             raise request.fault
         row = Row(mail.extend, partial(message_of, request, before), of_failure=True)
         ended = Task(request, after=[row]).carry_out()
-        return Outcome(ended.state(), b"".join(mail))
+        return ended.state(), b"".join(mail)
     except (Fault, MemoryError, OSError) as error:
         keep_failure(request.state, error)
         comparison = failed_comparison(error)
-        return Outcome(comparison.state(), b"".join(message_of(request, before, comparison, None)))
+        return comparison.state(), b"".join(message_of(request, before, comparison, None))
 
 
 def columns_before(request: MailRequest) -> ColumnsBefore:
@@ -98,12 +90,8 @@ def compare_and_mail(request: MailRequest) -> int:
         deliver(way, message)
     elif request.weekly and request.state:
         text = f"The last comparison: {result_text(state)}.\n"
-        send_heartbeat(
-            f"{request.state}.quiet",
-            request.weekly,
-            text,
-            lambda subject, text: deliver(way, short_mail(request, subject, text)),
-        )
+        message = short_mail(request, "nothing to read", text)
+        send_heartbeat(f"{request.state}.quiet", request.weekly, partial(deliver, way, message))
     if request.sent_is_success:
         return Status.OK
     return state.told_status

@@ -16,7 +16,7 @@ from aide_compare.base.options import (
     option,
 )
 from aide_compare.base.parser import Defaults, Given, Parser, defaults_for, filled
-from aide_compare.commands.compare_task import CompareRequest, check_databases
+from aide_compare.commands.compare_task import CompareRequest, checked
 from aide_compare.commands.defaults import comparison_defaults
 
 NAME = "aide-compare mail"
@@ -55,7 +55,7 @@ def parser() -> Parser:
 
 def check(request: MailRequest, given: Given) -> None:
     """Refuses what means nothing without another word, or with it."""
-    check_databases(filled(CompareRequest, given, {}))
+    checked(given)
     if "weekly" in given and not request.state:
         text = "--weekly needs --state, beside which a file says when the last one was sent"
         raise Fault(Status.USAGE, text)

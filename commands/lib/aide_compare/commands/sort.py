@@ -1,12 +1,14 @@
 """aide-compare sort: a database in path order, whatever its size, in little memory."""
 from __future__ import annotations
 
+import os
 from collections.abc import Iterator, Sequence
 
 from aide_compare.base import progress
 from aide_compare.base.database import MAX_LINE, Kind, Layout
 from aide_compare.base.ending import Fault, Status, say, write_blocks
 from aide_compare.base.escapes import shown
+from aide_compare.base.files import reopened
 from aide_compare.base.options import MAX_SIZE, QUIET, Asked, Operand, field
 from aide_compare.base.parser import read
 from aide_compare.base.paths import path_of
@@ -20,6 +22,11 @@ BEFORE = 0
 ENTRIES = 1
 AFTER = 2
 SCHEMA = "create table lines (part integer, path_key blob, line blob)"
+# How many entries there are, and how many have to come before the one above them.
+BREAKS = f"""
+select count(*), ifnull(sum(path_key < above), 0) from (
+    select path_key, lag(path_key) over (order by rowid) as above from lines where part = {ENTRIES}
+)"""
 IN_ORDER = "select line from lines order by part, path_key, rowid"
 REPEATED = f"""
 select path_key from lines where part = {ENTRIES}
@@ -59,47 +66,36 @@ class SortRequest(Asked):
     )
 
 
-class Unsorted:
+def lines_of(copy: Copy) -> Iterator[tuple[int, bytes, bytes]]:
     """The lines of a database, each with the key by which it is put in order: those before the
     entries, the entries, and those from the end on."""
-
-    def __init__(self, copy: Copy) -> None:
-        self.file = open(copy.fd, "rb", buffering=BLOCK)
-        self.file.seek(0)
-        self.layout = Layout()
-        self.count = 0
-        # How many entries have to come before the one above them.
-        self.breaks = 0
-        self._last_key = b""
-
-    def __iter__(self) -> Iterator[tuple[int, bytes, bytes]]:
-        number = 0
-        while line := self.file.readline(MAX_LINE + 2):
+    layout = Layout()
+    number = 0
+    with open(reopened(copy.fd, os.O_RDONLY), "rb", BLOCK) as file:
+        while line := file.readline(MAX_LINE + 2):
             number += 1
             if len(line.rstrip(b"\n")) > MAX_LINE:
                 raise Fault(Status.DATABASE, f"line {number}: more than {MAX_LINE} bytes")
-            kind = self.layout.kind_of(line)
+            kind = layout.kind_of(line)
             if kind is Kind.ENTRY:
-                yield ENTRIES, self._key_of(number, line), line
+                yield ENTRIES, key_in(layout, number, line), line
             else:
-                yield AFTER if self.layout.is_over else BEFORE, b"", line
-        if not self.layout.is_over:
-            raise Fault(Status.DATABASE, "no @@end_db")
+                yield AFTER if layout.is_over else BEFORE, b"", line
+    if not layout.is_over:
+        raise Fault(Status.DATABASE, "no @@end_db")
 
-    def _key_of(self, number: int, line: bytes) -> bytes:
-        if not self.layout.columns:
-            text = f"line {number}: an entry before @@db_spec, or no column name"
-            raise Fault(Status.DATABASE, text)
-        key = self.layout.key_of(line)
-        if key is None:
-            raise Fault(Status.DATABASE, f"line {number}: no path")
-        if not line.endswith(b"\n"):
-            raise Fault(Status.DATABASE, "no @@end_db")
-        self.count += 1
-        if key < self._last_key:
-            self.breaks += 1
-        self._last_key = key
-        return key
+
+def key_in(layout: Layout, number: int, line: bytes) -> bytes:
+    """The key of the entry in a line."""
+    if not layout.columns:
+        text = f"line {number}: an entry before @@db_spec, or no column name"
+        raise Fault(Status.DATABASE, text)
+    key = layout.key_of(line)
+    if key is None:
+        raise Fault(Status.DATABASE, f"line {number}: no path")
+    if not line.endswith(b"\n"):
+        raise Fault(Status.DATABASE, "no @@end_db")
+    return key
 
 
 def say_repeated(rows: Rows) -> bool:
@@ -118,13 +114,14 @@ def sort(request: SortRequest) -> int:
     """Writes the database in path order, and says what was out of order. Returns the status."""
     rows = Rows(SCHEMA, 4 * request.max_size)
     path = "/dev/stdin" if request.path == "-" else request.path
-    database = Unsorted(copy_database("given", path, request.max_size))
-    rows.do_all("insert into lines values (?, ?, ?)", database)
+    copy = copy_database("given", path, request.max_size)
+    rows.do_all("insert into lines values (?, ?, ?)", lines_of(copy))
     write_blocks(1, (line for (line,) in rows.ask(IN_ORDER)))
     progress.note_step("the lines are in order")
     if not request.is_quiet:
-        say(f"out of order: {database.breaks} of {database.count} lines")
-        if database.breaks:
+        count, breaks = next(rows.ask(BREAKS))
+        say(f"out of order: {breaks} of {count} lines")
+        if breaks:
             say(ADVICE)
     return Status.DATABASE if say_repeated(rows) else Status.OK
 

@@ -82,13 +82,6 @@ class Comparison:
         self.left_out: Mapping[int, int] = {}
 
     @property
-    def told_status(self) -> int:
-        """The status of what is not silent."""
-        if self.has_failed or self.standings is None:
-            return self.status
-        return self.standings.told_status
-
-    @property
     def differs(self) -> bool:
         return 1 <= self.status <= 7
 

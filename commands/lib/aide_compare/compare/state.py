@@ -89,9 +89,8 @@ class State(NamedTuple):
         if not 0 <= self.status <= 255 or self.time < 0:
             return "a status or a time that no run has"
         if self.counts is None:
-            if self.status == 0 or (self.added, self.removed, self.changed) != (None, None, None):
-                return "counts that are missing"
-            return ""
+            known = (self.added, self.removed, self.changed) != (None, None, None)
+            return "counts that are missing" if self.status <= 7 or known else ""
         if min(self.counts) < 0 or status_of_counts(self.counts) != self.status:
             return "counts that are not those of the status"
         if self.standings and not self.standings.fits(sum(self.counts)):

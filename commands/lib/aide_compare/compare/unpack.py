@@ -25,7 +25,6 @@ from aide_compare.base.directories import closed_after, failure
 from aide_compare.base.words import words_of_side
 
 GZIP = b"\x1f\x8b"
-COMPRESS = b"\x1f\x9d"
 WITH_GZIP_HEADER = 31  # What zlib calls a window of 32 KiB behind a header of gzip.
 
 
@@ -119,9 +118,6 @@ def _unpacked(opened: Opened, limit: int) -> Iterator[bytes]:
     head = b""
     while len(head) < len(GZIP) and (block := next(raw, b"")):  # A pipe may give one at a time.
         head += block
-    if head.startswith(COMPRESS):
-        text = f"{opened.words} is compressed by compress (.Z); unpack it first"
-        raise Fault(Status.DEVICE, text)
     blocks: Iterator[bytes] = chain([head], raw)
     if head.startswith(GZIP):
         opened.is_packed = True

@@ -26,8 +26,7 @@ def words_of(state: State) -> str:
     """What a comparison has counted."""
     if not state.status:
         return "no differences"
-    added, removed, changed = state.counts or ("?", "?", "?")
-    text = f"added {added}, removed {removed}, changed {changed}"
+    text = f"added {state.added}, removed {state.removed}, changed {state.changed}"
     if state.standings:
         text += f": {state.standings.words()}"
         if state.standings.left_out:

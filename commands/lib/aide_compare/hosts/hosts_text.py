@@ -17,7 +17,7 @@ from aide_compare.lines.attributes import word_of
 from aide_compare.lines.change import Change
 from aide_compare.mail.columns import command_lines
 from aide_compare.show.changes import change_lines
-from aide_compare.show.digest import MAIL, Room, digest, entry_line
+from aide_compare.show.digest import MAIL, Room, digest, entry_line, shortened
 
 MAX_ROWS = 80
 MAX_COLUMNS = 80
@@ -110,14 +110,6 @@ def report_lines(report: Report) -> Iterator[str]:
         yield ""
     for row in report.table.rows():
         yield from shared_lines(report.shared(row), summary.counts.hosts)
-
-
-def shortened(text: str, width: int) -> str:
-    """A text in so many columns, without its middle if it is longer."""
-    if len(text) <= width:
-        return text
-    head = (width - 3) // 2
-    return text[:head] + "..." + text[len(text) - (width - 3 - head) :]
 
 
 def beginning(text: str, width: int) -> str:

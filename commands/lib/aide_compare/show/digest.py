@@ -21,8 +21,7 @@ from aide_compare.lines.change import Change
 from aide_compare.show.entry import entry_words
 
 MAX_LETTERS = 400  # Of a path in a line of any width.
-# A path of which the middle is left out keeps so many bytes at each end.
-MIN_END = 12
+MIN_WIDTH = 27  # Of a path, however little room there is.
 # What a line without room leaves out first of a new entry, whose mode says more.
 SIZE = re.compile(" [0-9]+ bytes$")
 # What open changes of one severity and one group of owners have in common.
@@ -169,14 +168,17 @@ def rest_words(table: Table, level: int, owners: int, room: Room, names: Names) 
         left -= count
 
 
-def shortened_path(path: bytes, width: int) -> str:
-    """A path that is escaped, without its middle if it is longer than a line."""
-    text = shown(path, 4096)
-    width = width or MAX_LETTERS
+def shortened(text: str, width: int) -> str:
+    """A text in so many columns, without its middle if it is longer."""
     if len(text) <= width:
         return text
-    end = max(MIN_END, (width - len("...")) // 2)
+    end = (width - len("...")) // 2
     return text[:end] + "..." + text[-end:]
+
+
+def shortened_path(path: bytes, width: int) -> str:
+    """A path that is escaped, in so many columns, or in a line of any width."""
+    return shortened(shown(path, 4096), max(width or MAX_LETTERS, MIN_WIDTH))
 
 
 def entry_line(row: Row, read: Read, begin: str, width: int) -> str:

@@ -1,26 +1,9 @@
 """The result of a comparison in words, as its state file has it."""
 from __future__ import annotations
 
-from typing import NamedTuple
-
 from aide_compare.base.words import SEVERITIES, age_in_words, minute_of
 from aide_compare.compare.state import State, not_compared
 from aide_compare.lines.change import Counts, Standing
-
-
-class KindCounts(NamedTuple):
-    """How many entries were added, removed and changed, as a text each."""
-
-    added: str
-    removed: str
-    changed: str
-
-
-def kind_counts(state: State, unknown: str) -> KindCounts:
-    """The counts of the kinds, each as the text `unknown` if there are none."""
-    if state.counts is None:
-        return KindCounts(unknown, unknown, unknown)
-    return KindCounts(*map(str, state.counts))
 
 
 def result_text(state: State) -> str:
@@ -29,8 +12,7 @@ def result_text(state: State) -> str:
         return f"no comparison, status {state.status}: {state.error}"
     text = "no difference"
     if state.status:
-        counts = kind_counts(state, "?")
-        text = f"{counts.added} added, {counts.removed} removed, {counts.changed} changed"
+        text = f"{state.added} added, {state.removed} removed, {state.changed} changed"
         if state.standings:
             text = f"{state.standings.words()}: {text}"
         if state.standings and state.standings.left_out:
@@ -45,8 +27,7 @@ def result_numbers(state: State) -> str:
     was compared."""
     if state.status > 7:
         return ""
-    counts = kind_counts(state, "U")
-    numbers = f"added={counts.added} removed={counts.removed} changed={counts.changed} "
+    numbers = f"added={state.added} removed={state.removed} changed={state.changed} "
     if state.standings:
         numbers += f"{state.standings.line()} "
     return numbers
