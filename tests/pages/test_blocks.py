@@ -33,14 +33,10 @@ ANY = re.compile(r"\b[A-Z]+\b|\b\d+\b|\.\.\.")
 # What a module says of itself is no message; and where one literal goes on in the next line.
 PROSE = re.compile(r'^\s*""".*?"""$|^\s*#.*?$', re.M | re.S)
 JOINT = re.compile(r"""(['"])\s*\n\s*[bf]*\1""")
-# What a page has besides the options of its own command: those of a comparison that are passed on,
-# and those of a form.
-ALSO = {
-    "man/aide-compare-mail.1": ["compare"],
-    "man/aide-compare-status.1": ["status", "--format", "prometheus"],
-}
-# These are short for a comparison, whose page has the options.
-SHORT = ("aide-compare-json.1", "aide-compare-page.1", "aide-compare-show.1")
+# What a page has besides the options of its own command: those of a form.
+ALSO = {"man/aide-compare-status.1": ["status", "--format", "prometheus"]}
+# These are comparisons, whose own page has the options that they share with all.
+COMPARISONS = tuple(f"aide-compare-{name}.1" for name in ("json", "mail", "page", "show"))
 COMPARE = "aide-compare -E -c compare.conf"
 ADDED = HEAD + "/a 100644 5 MA== 4\n@@end_db\n"
 EMPTY = HEAD + "@@end_db\n"
@@ -237,8 +233,9 @@ class WordsTest(unittest.TestCase):
             more = listed_by([FRONT, *ALSO[page]]) if page in ALSO else set()
             with self.subTest(page):
                 self.assertGreater(len(listed), 1)
-                if os.path.basename(page) not in SHORT:
-                    self.assertLessEqual(listed, named)
+                is_comparison = os.path.basename(page) in COMPARISONS
+                others = listed_by([FRONT, "compare"]) if is_comparison else set()
+                self.assertLessEqual(listed - others, named)
                 self.assertLessEqual(named, listed | more)
 
     def test_defaults(self) -> None:
