@@ -4,7 +4,7 @@ from __future__ import annotations
 
 import json
 import re
-from typing import Dict, NamedTuple, Optional
+from typing import NamedTuple
 
 from aide_compare.base.database import SET_ID
 from aide_compare.base.words import SEVERITIES
@@ -40,7 +40,7 @@ class Known(NamedTuple):
     held: Held
     owners: int  # The group of its owner.
     # The number of the user who may have many such changes; None for root.
-    party: Optional[int]
+    party: int | None
     form: str  # "file", "link" or "": of the new entry, or of the one that went.
     has_content: bool  # Whether records could say something, by the rights alone.
 
@@ -54,7 +54,7 @@ class Weighed(NamedTuple):
     level: int  # The place of its severity in SEVERITIES.
     owners: int
     rank: int
-    party: Optional[int]
+    party: int | None
     form: str
     may_be_recorded: bool  # Whether nothing but a content came or changed.
     line_at: int
@@ -69,7 +69,7 @@ def directory_of(key: bytes) -> bytes:
     return SLASH
 
 
-def group_of_owner(owner: Optional[int]) -> int:
+def group_of_owner(owner: int | None) -> int:
     """0 for root and for an owner that is not known, 1 for a service, 2 for all others."""
     if owner is None or owner == ROOT:
         return 0
@@ -78,7 +78,7 @@ def group_of_owner(owner: Optional[int]) -> int:
     return 2
 
 
-def party_of(owner: Optional[int]) -> Optional[int]:
+def party_of(owner: int | None) -> int | None:
     """The number of a user but root, as SQLite has numbers; UNKNOWN if it was not measured."""
     if owner == ROOT:
         return None
@@ -133,7 +133,7 @@ class Scales:
 
     def __init__(self) -> None:
         self.severity = Severity()
-        self.known: Dict[object, Known] = {}
+        self.known: dict[object, Known] = {}
 
     def weighed(self, outline: Outline, fields: Fields, line_at: int) -> Weighed:
         """A change by its line, which has this object, and begins there."""

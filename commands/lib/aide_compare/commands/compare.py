@@ -3,7 +3,7 @@ from __future__ import annotations
 
 import os
 from collections.abc import Iterable, Sequence
-from typing import TYPE_CHECKING, Optional
+from typing import TYPE_CHECKING
 
 from aide_compare.base.ending import Fault, Status
 from aide_compare.base.escapes import shown
@@ -74,7 +74,7 @@ class Printer:
             return comparison.status
         return comparison.state().told_status
 
-    def _printed(self, comparison: Comparison, judged: Optional[Judged]) -> Iterable[bytes]:
+    def _printed(self, comparison: Comparison, judged: Judged | None) -> Iterable[bytes]:
         """What was asked for. If the changes are not known, that is the report."""
         if self.form in (BRIEF, ONLY) and comparison.status == 0:
             return [no_difference(comparison)]
@@ -88,7 +88,7 @@ class Printer:
             return [brief_of(judged)]
         return blocks_of(report_of(comparison))
 
-    def _notes(self, comparison: Comparison, judged: Optional[Judged]) -> Iterable[bytes]:
+    def _notes(self, comparison: Comparison, judged: Judged | None) -> Iterable[bytes]:
         """What is not in a report: it names only the descriptors of the databases."""
         text = told_of(comparison, self.request.is_quiet, self.request.is_verbose)
         if self.is_printed and comparison.differs:
@@ -106,7 +106,7 @@ class Printer:
                 text += f"aide-compare: {comparison.standings.left_out_words()}\n"
         yield text.encode("utf-8", "backslashreplace")
 
-    def _failure(self, comparison: Comparison, _judged: Optional[Judged]) -> Iterable[bytes]:
+    def _failure(self, comparison: Comparison, _judged: Judged | None) -> Iterable[bytes]:
         """Why nothing was compared."""
         if comparison.has_failed:
             text = told_of(comparison, self.request.is_quiet, self.request.is_verbose)

@@ -3,7 +3,7 @@ from __future__ import annotations
 
 from collections.abc import Iterable, Mapping, Sequence
 from contextlib import suppress
-from typing import TYPE_CHECKING, Optional
+from typing import TYPE_CHECKING
 
 from aide_compare.base.ending import Fault, Status, write_blocks
 from aide_compare.base.escapes import shown
@@ -71,9 +71,9 @@ class CompareRequest(Asked):
             (),
         )
     )
-    configuration: Optional[str] = field(CONFIG)
+    configuration: str | None = field(CONFIG)
     after: str = field(AFTER, default="")
-    state: Optional[str] = field(
+    state: str | None = field(
         STATE, help="write the status, the time, the counts and both SHA-256 to FILE"
     )
     max_size: int = field(MAX_SIZE)
@@ -84,13 +84,13 @@ class CompareRequest(Asked):
     wants_report: bool = option(
         "--report", "print the report as AIDE does, as with an option report_* in -A"
     )
-    only: Optional[Pattern] = option(
+    only: Pattern | None = option(
         "--only",
         "print the changes of these paths alone, as '/etc/**', with their values",
         "PATTERN",
         kind=pattern,
     )
-    user: Optional[str] = field(USER)
+    user: str | None = field(USER)
     no_defaults: bool = field(NO_DEFAULTS)
 
     @classmethod
@@ -154,7 +154,7 @@ def work_request(request: CompareRequest) -> Request:
     )
 
 
-def keep_failure(path: Optional[str], error: Exception) -> None:
+def keep_failure(path: str | None, error: Exception) -> None:
     """Writes into the state file that a run has failed before it could begin, as by a fault in the
     defaults: otherwise the result of an earlier run would look like that of today."""
     if path is None:
@@ -176,7 +176,7 @@ class Row:
         self.of_failure = of_failure
         self.blocks: Iterable[bytes] = ()
 
-    def write(self, comparison: Comparison, judged: Optional[Judged]) -> None:
+    def write(self, comparison: Comparison, judged: Judged | None) -> None:
         """Makes the bytes."""
         blocks = self.make(comparison, judged)
         if self.of_failure:
@@ -198,7 +198,7 @@ def output_rows(request: CompareRequest) -> list[Row]:
     return rows
 
 
-def state_bytes(comparison: Comparison, _judged: Optional[Judged]) -> Sequence[bytes]:
+def state_bytes(comparison: Comparison, _judged: Judged | None) -> Sequence[bytes]:
     return [comparison.state().text()]
 
 
@@ -241,7 +241,7 @@ class Task:
         self._put(comparison)
         return comparison
 
-    def _become_owner(self, baseline: str) -> Optional[int]:
+    def _become_owner(self, baseline: str) -> int | None:
         try:
             return become_owner(*filter(None, (baseline, *self._files())))
         except Fault as fault:
@@ -253,7 +253,7 @@ class Task:
         paths = [path for path in self.options.outputs.values() if descriptor_of(path) is None]
         return [*paths, self.options.state] if self.options.state else paths
 
-    def _open_outputs(self, user: Optional[int]) -> None:
+    def _open_outputs(self, user: int | None) -> None:
         """Opens the places of the outputs, as this user may write them."""
         state_file = None
         try:

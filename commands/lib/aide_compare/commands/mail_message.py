@@ -24,7 +24,7 @@ def message_of(
     request: MailRequest,
     before: ColumnsBefore,
     comparison: Comparison,
-    judged: Optional[Judged],
+    judged: Judged | None,
 ) -> Iterator[bytes]:
     """The mail of a comparison; nothing if it is no alarm. A column that is not compared is one,
     unless the last run has not compared it either."""
@@ -55,7 +55,7 @@ def notes_of(request: MailRequest, comparison: Comparison) -> list[str]:
 
 
 def lines_of_mail(
-    request: MailRequest, comparison: Comparison, judged: Optional[Judged], notes: Sequence[str]
+    request: MailRequest, comparison: Comparison, judged: Judged | None, notes: Sequence[str]
 ) -> list[str]:
     """The lines of the text."""
     if comparison.has_failed:
@@ -77,7 +77,7 @@ def whole_changes(reader: Reader) -> Iterator[Outline]:
         yield from reader.outlines()
 
 
-def page_of(comparison: Comparison, judged: Optional[Judged], notes: list[str]) -> Optional[bytes]:
+def page_of(comparison: Comparison, judged: Judged | None, notes: list[str]) -> bytes | None:
     """The page of the changes, or a note why there is none: an alarm is not lost for that."""
     why = "the changes are not known"
     if judged is not None:

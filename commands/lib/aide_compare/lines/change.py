@@ -7,7 +7,7 @@ from __future__ import annotations
 
 import re
 from enum import Enum
-from typing import Any, Dict, NamedTuple, Optional, Tuple, Union
+from typing import Any, NamedTuple, Union
 
 from aide_compare.base.words import KINDS, SEVERITIES, counted
 from aide_compare.lines.attributes import NUMBERS
@@ -16,11 +16,11 @@ from aide_compare.lines.rights import differing
 Value = Union[int, str, bytes, None]
 VALUE_TYPES = frozenset((int, str, type(None)))  # As a line has them.
 # The exact values of one side by the labels of attributes.
-Values = Dict[str, Value]
+Values = dict[str, Value]
 # What people read in place of the values of one side, by the same labels.
-Texts = Dict[str, str]
+Texts = dict[str, str]
 # The object of a line.
-Fields = Dict[str, Any]
+Fields = dict[str, Any]
 
 
 class Standing(Enum):
@@ -85,10 +85,10 @@ class Change(NamedTuple):
     letters: str  # The summary string of a report.
     old: Values
     new: Values
-    silent: Optional[Standing]  # Its standing; None if it is not silent.
+    silent: Standing | None  # Its standing; None if it is not silent.
 
     @property
-    def sides(self) -> Tuple[Values, Values]:
+    def sides(self) -> tuple[Values, Values]:
         return self.old, self.new
 
 
@@ -102,7 +102,7 @@ def left_out_by(fields: Fields) -> int:
     return int(line)
 
 
-def account_of(fields: Fields) -> Optional[Standing]:
+def account_of(fields: Fields) -> Standing | None:
     """What accounts for the change of a proved line; None if nothing does."""
     if left_out_by(fields):
         return Standing.LEFT_OUT
@@ -111,7 +111,7 @@ def account_of(fields: Fields) -> Optional[Standing]:
     return None
 
 
-def silent_by(account: Optional[Standing], path: bytes) -> Optional[Standing]:
+def silent_by(account: Standing | None, path: bytes) -> Standing | None:
     """The standing of a change with this account; None if it is not silent."""
     if account is Standing.TRUSTED and WATCHERS.fullmatch(path):
         return None

@@ -9,9 +9,10 @@ from __future__ import annotations
 import base64
 import re
 import stat
+from collections.abc import Sequence
 from contextlib import suppress
 from functools import lru_cache
-from typing import Dict, List, NamedTuple, Optional, Sequence, Tuple
+from typing import NamedTuple
 
 from aide_compare.base.escapes import shown
 from aide_compare.base.paths import unescaped
@@ -67,7 +68,7 @@ def exact_bytes(value: str | bytes) -> bytes:
     return value
 
 
-def _from_base64(text: bytes) -> Optional[bytes]:
+def _from_base64(text: bytes) -> bytes | None:
     """The bytes that a field has in base 64, None if it is not such a field. AIDE writes no bytes
     as 0."""
     if text == b"0":
@@ -83,7 +84,7 @@ def _cut(text: str) -> str:
     return text[:MAX_TEXT] + "..."
 
 
-def _acl_entries(text: bytes) -> Optional[List[str]]:
+def _acl_entries(text: bytes) -> list[str] | None:
     """The entries of a list, each with what the mask leaves of it, or None."""
     lines = text.rstrip(b"\n").split(b"\n", MAX_ACL_ENTRIES) if text else []
     entries = []
@@ -95,13 +96,13 @@ def _acl_entries(text: bytes) -> Optional[List[str]]:
     return entries
 
 
-def acl_text(value: bytes) -> Optional[str]:
+def acl_text(value: bytes) -> str | None:
     """Both lists of a field, `POSIX,` and both in base 64, in one line as getfacl prints them: that
     of defaults has `default:` before each entry."""
     kind, *fields = value.split(b",", 3)
     if kind != b"POSIX" or len(fields) != 2:
         return None
-    words: List[str] = []
+    words: list[str] = []
     for before, field in zip(("", "default:"), fields):
         text = _from_base64(field)
         entries = None if text is None else _acl_entries(text)
@@ -111,7 +112,7 @@ def acl_text(value: bytes) -> Optional[str]:
     return _cut(", ".join(words))
 
 
-def _extended_attributes(value: bytes) -> Optional[List[Tuple[bytes, bytes]]]:
+def _extended_attributes(value: bytes) -> list[tuple[bytes, bytes]] | None:
     """The names and values of a field: their number, each name with percent escapes, each value in
     base 64; or None."""
     number, *fields = value.split(b",")
@@ -138,7 +139,7 @@ def _attribute_text(name: bytes, data: bytes) -> str:
     return "0s" + base64.b64encode(data[:MAX_TEXT]).decode()
 
 
-def xattrs_text(value: bytes) -> Optional[str]:
+def xattrs_text(value: bytes) -> str | None:
     """All attributes of a field in one line: NAME: VALUE; NAME: VALUE."""
     attributes = _extended_attributes(value)
     if attributes is None:
@@ -154,13 +155,13 @@ def xattrs_text(value: bytes) -> Optional[str]:
     return _cut("; ".join(parts))
 
 
-def label_text(value: bytes) -> Optional[str]:
+def label_text(value: bytes) -> str | None:
     """A label of SELinux, which AIDE keeps in base 64."""
     label = _from_base64(value) or b""
     return shown(label.removesuffix(b"\0"), MAX_TEXT)
 
 
-def flags_text(value: bytes) -> Optional[str]:
+def flags_text(value: bytes) -> str | None:
     """The letters of a number of flags. Flags without a letter follow as a number, so that no
     change is invisible."""
     if not value.isdigit() or len(value) > 20:
@@ -173,7 +174,7 @@ def flags_text(value: bytes) -> Optional[str]:
     return text
 
 
-def capabilities_text(value: bytes) -> Optional[str]:
+def capabilities_text(value: bytes) -> str | None:
     """The text that AIDE keeps in base 64, as libcap made it."""
     text = _from_base64(value) or b""
     if not re.fullmatch(CAPABILITIES_TEXT, text):
@@ -182,7 +183,7 @@ def capabilities_text(value: bytes) -> Optional[str]:
 
 
 @lru_cache(maxsize=4096)
-def mode_text(digits: bytes, kind: Optional[str] = None) -> Optional[str]:
+def mode_text(digits: bytes, kind: str | None = None) -> str | None:
     """Permissions such as 4755 as ls prints them: -rwsr-xr-x, without the first letter if the type
     is not known."""
     if len(digits) != 4 or digits.strip(b"01234567"):
@@ -202,7 +203,7 @@ _DECODERS = {
 }
 
 
-def decoded(label: str, value: Value, kind: Optional[str] = None) -> Optional[str]:
+def decoded(label: str, value: Value, kind: str | None = None) -> str | None:
     """The value of an attribute (by its name in the details) of a file of this kind for people,
     None if nothing is to decode."""
     if value is None or isinstance(value, int):
@@ -214,18 +215,18 @@ def decoded(label: str, value: Value, kind: Optional[str] = None) -> Optional[st
     return _DECODERS[label](exact_bytes(value)) or None
 
 
-def kinds_of(change: Change) -> Sequence[Optional[str]]:
+def kinds_of(change: Change) -> Sequence[str | None]:
     """The types of both sides in words: an old entry has that of the new one, unless the letters
     say that it changed."""
     kind = None if change.letters.startswith("!") else change.type
-    kinds: List[Optional[str]] = []
+    kinds: list[str | None] = []
     for values in change.sides:
         own = values.get("Type", kind)
         kinds.append(own if isinstance(own, str) else None)
     return kinds
 
 
-def _side_texts(values: Values, kind: Optional[str]) -> Dict[str, str]:
+def _side_texts(values: Values, kind: str | None) -> dict[str, str]:
     """The texts of a side by their labels."""
     texts = {label: decoded(label, value, kind) for label, value in values.items()}
     return {label: text for label, text in texts.items() if text is not None}

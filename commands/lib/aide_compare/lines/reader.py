@@ -7,8 +7,9 @@ import json
 import os
 import re
 from collections import Counter
+from collections.abc import Iterator
 from contextlib import suppress
-from typing import Any, BinaryIO, Iterator, NamedTuple, Optional, Tuple
+from typing import Any, BinaryIO, NamedTuple
 
 from aide_compare.base.ending import Fault, Status
 from aide_compare.base.files import BLOCK
@@ -55,7 +56,7 @@ class Outline(NamedTuple):
 
     kind: str
     path: bytes
-    silent: Optional[Standing]  # None if it is not silent.
+    silent: Standing | None  # None if it is not silent.
     key: bytes  # Of the path.
     line: bytes
     left_out: int = 0  # The number of the list's line that leaves it out; 0 if none does.
@@ -75,7 +76,7 @@ class EndCounts(NamedTuple):
     others: int
 
     @property
-    def kinds(self) -> Tuple[int, int, int]:
+    def kinds(self) -> tuple[int, int, int]:
         return self.added, self.removed, self.changed
 
     @property

@@ -8,7 +8,7 @@ from __future__ import annotations
 
 import base64
 import re
-from typing import Any, Dict, NamedTuple, Optional, Tuple
+from typing import Any, NamedTuple, Optional
 
 from aide_compare.base.directories import OTHERS_WRITE
 from aide_compare.base.paths import unescaped
@@ -45,7 +45,7 @@ def is_access_list(field: bytes) -> bool:
     return not re.fullmatch(BASE_ACL, text)
 
 
-def capability_in(xattrs: bytes) -> Optional[bytes]:
+def capability_in(xattrs: bytes) -> bytes | None:
     """The attribute that gives a file capabilities, among all extended ones: their number, and each
     name with its value."""
     parts = xattrs.split(b",")
@@ -59,13 +59,13 @@ class Rights(NamedTuple):
     """The rights of an entry on one side. None, or no type: its line does not say it."""
 
     type: str  # In words, such as "File".
-    permissions: Optional[int]
-    user: Optional[int]
-    group: Optional[int]
-    acl: Optional[bytes]
-    xattrs: Optional[bytes]
-    selinux: Optional[bytes]
-    capabilities: Optional[bytes]
+    permissions: int | None
+    user: int | None
+    group: int | None
+    acl: bytes | None
+    xattrs: bytes | None
+    selinux: bytes | None
+    capabilities: bytes | None
 
     @property
     def is_file(self) -> bool:
@@ -104,14 +104,14 @@ class Rights(NamedTuple):
         return self.permissions
 
     @property
-    def owner(self) -> Optional[int]:
+    def owner(self) -> int | None:
         """The number of its user, None if it is not known. Nobody but root makes a device."""
         if self.user is not None and self.is_device:
             return ROOT
         return self.user
 
     @property
-    def capability_sets(self) -> Tuple[Optional[bytes], ...]:
+    def capability_sets(self) -> tuple[bytes | None, ...]:
         """What gives it capabilities, as AIDE writes it in two columns. Of a link AIDE reads the
         capabilities of the file that it points to."""
         if self.is_link:
@@ -144,12 +144,12 @@ Side = Optional[Rights]
 
 
 # The rights of an entry on both sides.
-Sides = Tuple[Side, Side]
+Sides = tuple[Side, Side]
 # The object of a line, or of a side in it.
-Object = Dict[str, Any]
+Object = dict[str, Any]
 
 
-def _bytes_in(values: Object, name: str) -> Optional[bytes]:
+def _bytes_in(values: Object, name: str) -> bytes | None:
     """The bytes of a value that is a text, or in base 16 where it is not UTF-8; None without it."""
     if name in values:
         return bytes(values[name].encode("utf-8"))
@@ -158,14 +158,14 @@ def _bytes_in(values: Object, name: str) -> Optional[bytes]:
     return None
 
 
-def _number_in(values: Object, name: str, base: int = 10) -> Optional[int]:
+def _number_in(values: Object, name: str, base: int = 10) -> int | None:
     """A number, which may be a text of its digits; None without it."""
     if name not in values:
         return None
     return int(str(values[name]), base)
 
 
-def _side(values: Optional[Object]) -> Side:
+def _side(values: Object | None) -> Side:
     if values is None:
         return None
     return Rights(
@@ -207,7 +207,7 @@ def differing(fields: Object) -> Object:
     return {**fields, "old": old, "new": new}
 
 
-def owner_of(old: Side, new: Side) -> Optional[int]:
+def owner_of(old: Side, new: Side) -> int | None:
     """Whose change it is: root's, if root's entry is among the two."""
     owners = [rights.owner for rights in (old, new) if rights]
     known = [owner for owner in owners if owner is not None]

@@ -9,7 +9,6 @@ from collections.abc import Iterable, Sequence
 from email.contentmanager import raw_data_manager
 from email.message import EmailMessage, Message
 from email.policy import compat32
-from typing import Optional
 
 from aide_compare.base.escapes import shown_lines
 from aide_compare.base.words import KINDS
@@ -49,7 +48,7 @@ def subject_of(state: State, columns: Sequence[str] = (), warnings: Sequence[str
     return f"aide on {host_name()}: {'; '.join(parts)}"
 
 
-def within(parts: Iterable[bytes], limit: int) -> Optional[bytes]:
+def within(parts: Iterable[bytes], limit: int) -> bytes | None:
     """The parts as one, or None if they have more than so many bytes."""
     whole = bytearray()
     for part in parts:
@@ -71,7 +70,7 @@ def encoding_of(data: bytes) -> str:
     return "8bit"
 
 
-def build(address: str, subject: str, text: bytes, page: Optional[bytes] = None) -> bytes:
+def build(address: str, subject: str, text: bytes, page: bytes | None = None) -> bytes:
     """The bytes of a mail: a text, to which its page may be attached."""
     message = EmailMessage(policy=POLICY)
     message["To"] = address

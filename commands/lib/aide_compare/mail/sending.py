@@ -15,7 +15,6 @@ import time
 from collections.abc import Callable
 from contextlib import suppress
 from functools import partial
-from typing import Optional
 
 from aide_compare.base.directories import LISTING, Directory, closed_after, open_directory
 from aide_compare.base.ending import Fault, Status, failing, say
@@ -91,7 +90,7 @@ def alert(text: str) -> bool:
     return False
 
 
-def refusal_of(way: Way, message: bytes) -> Optional[str]:
+def refusal_of(way: Way, message: bytes) -> str | None:
     """Why a message was not taken, or None. One such reason is that no process can be started, or
     no pipe made for it."""
     try:

@@ -2,7 +2,8 @@
 from __future__ import annotations
 
 import json
-from typing import TYPE_CHECKING, Collection, Iterator, NamedTuple, Optional
+from collections.abc import Collection, Iterator
+from typing import TYPE_CHECKING, NamedTuple
 
 from aide_compare.base.escapes import guarded, shown
 from aide_compare.base.words import date_of
@@ -20,7 +21,7 @@ if TYPE_CHECKING:
 MAX_VALUE = 200
 
 
-def _shown(label: str, value: Value, text: Optional[str]) -> Optional[str]:
+def _shown(label: str, value: Value, text: str | None) -> str | None:
     """A value for people; None if there is none."""
     if text is not None:
         return guarded(text[:MAX_VALUE])
@@ -36,8 +37,8 @@ class Row(NamedTuple):
     """An attribute of a change with both values for people, None for one that is not there."""
 
     label: str
-    old: Optional[str]
-    new: Optional[str]
+    old: str | None
+    new: str | None
 
     @property
     def word(self) -> str:

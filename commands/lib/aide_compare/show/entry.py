@@ -2,7 +2,6 @@
 from __future__ import annotations
 
 import stat
-from typing import List, Optional
 
 from aide_compare.base.files import file_kind
 from aide_compare.base.words import date_of, minute_of
@@ -19,14 +18,14 @@ OTHERS = ("Lname", "ACL", "XAttrs", "SELinux", "E2FSAttrs", "Caps")
 ALONE = {"Inode": "another inode", "Bcount": "blocks"}
 
 
-def _type_word(kind: Optional[str]) -> str:
+def _type_word(kind: str | None) -> str:
     """As in "directory"; "entry" if the type is not known."""
     if kind not in TYPES:
         return "entry"
     return file_kind(TYPES[kind]).partition(" ")[2]
 
 
-def _value(values: Values, label: str, kind: Optional[str]) -> str:
+def _value(values: Values, label: str, kind: str | None) -> str:
     """A value of an entry of this type as people read it: the mode as ls(1) prints it, such as
     "-rwsr-xr-x"."""
     if label == "Type":
@@ -41,13 +40,13 @@ def _value(values: Values, label: str, kind: Optional[str]) -> str:
     return str(value)
 
 
-def _seconds(values: Values, label: str) -> Optional[int]:
+def _seconds(values: Values, label: str) -> int | None:
     """A time of an entry; None if it has none."""
     seconds = values.get(label)
     return seconds if isinstance(seconds, int) else None
 
 
-def _when(old: Values, new: Values) -> List[str]:
+def _when(old: Values, new: Values) -> list[str]:
     """When an entry came or changed. The time of its inode comes first, since anybody can set the
     other one back."""
     for label in ("Ctime", "Mtime"):
@@ -57,7 +56,7 @@ def _when(old: Values, new: Values) -> List[str]:
     return []
 
 
-def _one_side(values: Values, kind: Optional[str]) -> str:
+def _one_side(values: Values, kind: str | None) -> str:
     """As in "-rwsr-xr-x root:root 1265648 bytes", without what was not measured."""
     words = []
     if "Perm" in values:
@@ -69,7 +68,7 @@ def _one_side(values: Values, kind: Optional[str]) -> str:
     return " ".join(words)
 
 
-def _side_words(values: Values, kind: Optional[str]) -> List[str]:
+def _side_words(values: Values, kind: str | None) -> list[str]:
     """The words for an entry that came or went. A program may be of severity high for its
     capabilities alone."""
     words = [_one_side(values, kind)]

@@ -4,7 +4,8 @@ from __future__ import annotations
 
 import json
 import os
-from typing import TYPE_CHECKING, Iterator, Optional, Tuple
+from collections.abc import Iterator
+from typing import TYPE_CHECKING
 
 from aide_compare.base.words import SIDES, TRUSTED_SIDES
 from aide_compare.lines.change import Fields, Standing, change_of
@@ -33,7 +34,7 @@ def summary_of(summary: Fields, comparison: Comparison) -> Fields:
     return members
 
 
-def end_of(reader: Reader, comparison: Comparison, judged: Optional[Judged]) -> Fields:
+def end_of(reader: Reader, comparison: Comparison, judged: Judged | None) -> Fields:
     """The last line, with the names of the columns that were not compared, if there are any."""
     end = dict(reader.end)
     if comparison.skipped:
@@ -43,7 +44,7 @@ def end_of(reader: Reader, comparison: Comparison, judged: Optional[Judged]) -> 
     return end
 
 
-def marked_lines(reader: Reader, judged: Optional[Judged]) -> Iterator[Tuple[bytes, Fields]]:
+def marked_lines(reader: Reader, judged: Judged | None) -> Iterator[tuple[bytes, Fields]]:
     """The lines of a Reader, each with the standing of its change, and with what is known of it if
     the changes were judged."""
     told = judged.table.rows(order="place") if judged else None
@@ -69,7 +70,7 @@ def line_of(fields: Fields) -> bytes:
 
 
 def added_lines(
-    reader: Reader, comparison: Comparison, judged: Optional[Judged]
+    reader: Reader, comparison: Comparison, judged: Judged | None
 ) -> Iterator[bytes]:
     """Yields the lines of a comparison with what is added."""
     yield line_of(summary_of(reader.summary, comparison))

@@ -34,13 +34,13 @@ def all_lines(comparison: Comparison) -> Reader:
     return reader_over(lines.fd)
 
 
-def json_lines(comparison: Comparison, judged: Optional[Judged]) -> Iterable[bytes]:
+def json_lines(comparison: Comparison, judged: Judged | None) -> Iterable[bytes]:
     from aide_compare.show.json_lines import added_lines
 
     return added_lines(all_lines(comparison), comparison, judged)
 
 
-def page(comparison: Comparison, judged: Optional[Judged]) -> Iterable[bytes]:
+def page(comparison: Comparison, judged: Judged | None) -> Iterable[bytes]:
     from aide_compare.show.page import page_of
 
     return page_of(comparison, judged, all_lines(comparison))

@@ -7,8 +7,9 @@ import base64
 import hashlib
 import json
 import os
+from collections.abc import Callable, Iterable, Iterator
 from html import escape
-from typing import TYPE_CHECKING, Callable, Iterable, Iterator, List, Optional, Tuple
+from typing import TYPE_CHECKING
 
 from aide_compare.base.escapes import guarded, shown
 from aide_compare.base.files import private_file
@@ -131,7 +132,7 @@ def values_of(values: Values, texts: Texts) -> Fields:
     return fields
 
 
-def row_of(change: Change, marks: Fields) -> List[Fields]:
+def row_of(change: Change, marks: Fields) -> list[Fields]:
     """The row of a change: what is always there, which is its place, the names of its values and
     some marks; and its values."""
     names = {*change.old, *change.new}
@@ -178,7 +179,7 @@ class Rows:
             else:
                 yield b"[%s]" % head
 
-    def remarks(self) -> List[str]:
+    def remarks(self) -> list[str]:
         """What is missing."""
         remarks = []
         if self.listed < self.count:
@@ -191,7 +192,7 @@ class Rows:
         return remarks
 
 
-def changes_in_order(judged: Optional[Judged], reader: Reader) -> Iterator[Tuple[Change, Fields]]:
+def changes_in_order(judged: Judged | None, reader: Reader) -> Iterator[tuple[Change, Fields]]:
     """All changes with their marks, those that are read first before the others."""
     if judged is not None:
         for row in judged.table.rows(order=BY_STANDING):
@@ -231,7 +232,7 @@ def heading_of(comparison: Comparison, rows: Rows, title: str) -> Fields:
 
 
 def page_of(
-    comparison: Comparison, judged: Optional[Judged], reader: Reader, limit: int = MAX_PAGE
+    comparison: Comparison, judged: Judged | None, reader: Reader, limit: int = MAX_PAGE
 ) -> Iterator[bytes]:
     """The page of a comparison, whose lines a Reader has."""
     rows = Rows()
