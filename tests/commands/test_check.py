@@ -54,7 +54,7 @@ class CheckTest(StateTest):
         said = "no comparison, status 24: a!b=1;2\\001\\033[0m!"
         self.check("an error", 3, said, "|age=6")
         self.put(status=5, **NOTHING)
-        self.check("a state without counts", 2, "added=U removed=U changed=U")
+        self.check("a state without counts", 3, "is no state file")
         self.put(age=93700)
         self.check("an old state", 3, "older than 26 hours", "age=937")
         self.check("an old state that may be", 0, "no difference", words=["--max-age", "27h"])

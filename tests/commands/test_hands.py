@@ -68,15 +68,12 @@ class HandsTest(CommandTest):
         variables = {
             "MONITOR_SERVICE_RESULT": "exit-code",
             "MONITOR_EXIT_STATUS": "18",
-            "MONITOR_UNIT": "aide-compare.service",
         }
         for more, cause in ((none, ""), (variables, ": exit-code, status 18")):
             message = self.of_unit("aide-compare-failed.service", **more)
             self.assertEqual(mail.subject(message), mail.SUBJECT + "the comparison failed")
             self.assertEqual(mail.body(message), (failed % cause).encode())
         self.assertIsNone(self.of_unit("aide-compare-mail.service"), "a success mails no failure")
-        message = self.of_unit("aide-compare-mail.service", **variables)
-        self.assertIn(b"failed: exit-code", mail.body(message), "the variables are enough")
 
     def test_same_counts(self) -> None:
         """A run by hand and a mail have the same counts, by the same defaults. The check judges by
@@ -110,7 +107,7 @@ class HandsTest(CommandTest):
         self.prepare("--to a@b.example\n")
         self.write("long.db", LONG_HEAD + long_lines() + b"@@end_db\n")
         message = self.mails(3, "--state", "of.state", "o.db", "long.db")
-        shown = mail.body(message).decode().partition(" as a page:\n    ")[2]
+        shown = mail.body(message).decode().partition(" (with the options of this job):\n    ")[2]
         command = shown.replace(" \\\n      ", " ").partition(" > ")[0]
         self.assertTrue(command.startswith("aide-compare page "), shown)
         self.assertNotIn("--state", command)

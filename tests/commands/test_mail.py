@@ -19,7 +19,7 @@ Open, severity medium:
   changed  /d: size 1 -> 2
   added    /a: -rw-r--r-- 5 bytes
 
-All changes with their values, as a page:
+All changes with their values, as a page (with the options of this job):
 """
 
 
@@ -141,7 +141,7 @@ class TextsTest(MailTest):
         self.assertIn(b"File changes on ", body(parts[1]), "a page with the host")
         self.assertIn(b"<pre>4 open of 4 changes", body(parts[1]), "for readers without scripts")
         self.assertEqual(len(heads_in(body(parts[1]))), 4)
-        self.set_names("commands.mail_message", MAX_PAGE=9000)
+        self.set_names("commands.mail", MAX_PAGE=9000)
         message = self.mail("--attach-page", "old.db", "new.db")
         assert message is not None
         data = data_in(body(message.get_payload()[1]))

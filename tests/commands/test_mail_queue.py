@@ -41,7 +41,7 @@ def refused():
     raise OSError(24, "Too many open files")
 os.pipe = os.fork = refused
 try:
-    sending.deliver(sending.way_out(5), b"To: root\\nSubject: x\\n\\nbody\\n")
+    sending.deliver(sending.sendmail_transport(5), b"To: root\\nSubject: x\\n\\nbody\\n")
 except sending.Fault as fault:
     print(fault.text)
 """

@@ -15,9 +15,7 @@ ZSH = "share/zsh/site-functions/_aide-compare"
 FISH = "share/fish/vendor_completions.d/aide-compare.fish"
 REPORT_OPTIONS = ["report_level"] + BOOL_OPTIONS + SET_OPTIONS
 SUBCOMMANDS = "compare show json page mail accept archive status sort setup version".split()
-HOSTS = [
-    "hosts " + word for word in ("add", "list", "remove", "compare", "accept", "report")
-]
+HOSTS = ["hosts " + word for word in ("add", "list", "remove", "compare", "accept", "report")]
 
 # What bash offers for the last word of a line.
 COMPLETED: dict[str, list[str]] = {

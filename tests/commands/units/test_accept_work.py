@@ -10,7 +10,7 @@ from unittest import mock
 from tests.commands.units.calls import ModuleTest
 
 from aide_compare.base.files import in_memory
-from aide_compare.commands import accept_work
+from aide_compare.commands import accept
 from aide_compare.compare.kept_open import Merged
 from aide_compare.compare.unpack import Copy
 
@@ -26,11 +26,11 @@ class AcceptWorkTest(ModuleTest):
         new, merged = self.copy(b"new"), self.copy(b"merged")
         old = in_memory(b"old")
         baseline: Any = SimpleNamespace(path="old.db", reading=lambda: old)
-        request = accept_work.AcceptRequest("new.db", "old.db", "", (), 1 << 20)
+        request = accept.AcceptRequest("new.db", "old.db", "", (), 1 << 20)
         counts = Counter[str]()
-        with mock.patch.object(accept_work, "keep_open", return_value=Merged(merged, counts)):
-            with mock.patch.object(accept_work, "refuse_unsound") as refuse:
-                got = accept_work.merge(request, new, baseline)
+        with mock.patch.object(accept, "keep_open", return_value=Merged(merged, counts)):
+            with mock.patch.object(accept, "refuse_unsound") as refuse:
+                got = accept.merge(request, new, baseline)
         self.expect("the merged one", got, Merged(merged, counts))
         self.expect(
             "what is read", refuse.mock_calls, [mock.call(new, mock.ANY), mock.call(merged)]

@@ -10,8 +10,8 @@ from tests.commands.units.calls import ModuleTest
 from aide_compare.base import parser, progress
 from aide_compare.base.options import COMPARISON_DEFAULTS, MAIL_DEFAULTS
 from aide_compare.base.parser import defaults_for
-from aide_compare.commands.compare_task import CompareRequest
-from aide_compare.commands.mail_request import MailRequest, parser as parser_of_mail, request_of
+from aide_compare.commands.compare import CompareRequest
+from aide_compare.commands.mail import MailRequest, parser as parser_of_mail, request_of
 
 
 class MailRequestTest(ModuleTest):

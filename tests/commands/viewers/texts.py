@@ -13,7 +13,7 @@ from typing import Any
 from tests.commands.viewers.expected import without_same_rights
 
 from aide_compare.lines.change import Value
-from aide_compare.lines.decoded import decoded
+from aide_compare.lines.readable import decoded
 
 TYPES = {
     "File": stat.S_IFREG,

@@ -13,11 +13,9 @@ from aide_compare.base.escapes import shown
 from aide_compare.base.processes import NOT_STARTED, Taker, run
 
 # Its descriptors, beside the standard ones.
-OLD = 3
-NEW = 4
+DESCRIPTORS = {"old": 3, "new": 4, "trusted_old": 6, "trusted_new": 7}
 CONFIGURATION = 5
-DESCRIPTORS = {"old": OLD, "new": NEW, "trusted_old": 6, "trusted_new": 7}
-DATABASES = f"database_in=file:/proc/self/fd/{OLD}\ndatabase_new=file:/proc/self/fd/{NEW}"
+DATABASES = "database_in=file:/proc/self/fd/3\ndatabase_new=file:/proc/self/fd/4"
 MAX_ERRORS = 1 << 20
 # The proved programs that write reports, and lines of JSON or what a configuration says; and the
 # command with all subcommands.

@@ -22,7 +22,7 @@ from aide_compare.base.files import BLOCK, nameless
 from aide_compare.base.paths import escaped, key_of_path, path_of, unescaped
 from aide_compare.changes.signed import Signed, file_name, open_package, tar_of
 from aide_compare.changes.usr import MERGED, usr_of
-from aide_compare.compare.kept_open import NEW, OLD, EntryReader, SidedEntry, key_of_entry
+from aide_compare.compare.kept_open import NEW_SIDE, OLD_SIDE, EntryReader, SidedEntry, key_of_entry
 from aide_compare.compare.unpack import Copy
 from aide_compare.lines.attributes import DIGEST_COLUMNS
 from aide_compare.lines.rights import is_access_list
@@ -83,7 +83,7 @@ def links_of(copy: Copy, paths: Collection[bytes]) -> dict[bytes, bytes]:
     keys = {key_of_path(path): path for path in paths}
     last = max(keys)
     found = {}
-    for key, _, line in reader.entries(OLD):
+    for key, _, line in reader.entries(OLD_SIDE):
         if key > last:
             break
         if key in keys:
@@ -222,8 +222,8 @@ def upgraded(old: Copy, upgrades: Upgrades) -> int:
     file = open(os.dup(target), "wb", BLOCK)
     reader = EntryReader(old, file.write)
     last: dict[bytes, FieldsByColumn] = {}
-    came = (SidedEntry(key, NEW, b"") for key in sorted(upgrades.files))
-    for key, group in groupby(merge(reader.entries(OLD), came), key_of_entry):
+    came = (SidedEntry(key, NEW_SIDE, b"") for key in sorted(upgrades.files))
+    for key, group in groupby(merge(reader.entries(OLD_SIDE), came), key_of_entry):
         fields = upgrades.files.get(key, {})
         entry = reader.fields(next(group).line)
         if entry:

@@ -11,7 +11,7 @@ from collections import Counter
 from collections.abc import Iterator
 
 from aide_compare.base.ending import Fault, Status
-from aide_compare.changes.packages import Dpkg, Named
+from aide_compare.changes.packages import Dpkg, NamedPackages
 from aide_compare.changes.recorded import Matcher
 from aide_compare.changes.rpm import Rpm
 from aide_compare.changes.table import Row, Table
@@ -28,7 +28,7 @@ class Judged:
 
     def __init__(self, reader: Reader) -> None:
         self.file = reader.file
-        self.named: Named = {}
+        self.named: NamedPackages = {}
         self.by = ""
         self.silent: Counter[str] = Counter()
         # How many changes the lines of the list leave out, by their numbers.

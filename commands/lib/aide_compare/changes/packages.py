@@ -29,9 +29,9 @@ CONFFILE = rb"(?m)^ ?(/.*?) ([0-9a-f]{32})(?: [a-z-]+)*$"
 SUM = re.compile(rb"([0-9a-f]{32})  ?(.+)")
 INFO_DIRECTORY = b"/var/lib/dpkg/info"
 INFO = rb"/var/lib/dpkg/info/([A-Za-z0-9][A-Za-z0-9+.-]*)(?::[a-z0-9-]+)?\.(list|md5sums)"
-UNSIGNED = "Unsigned packages"
-NEW = "New packages"
-REMOVED = "Removed packages"
+UNSIGNED_PACKAGES = "Unsigned packages"
+NEW_PACKAGES = "New packages"
+REMOVED_PACKAGES = "Removed packages"
 
 
 class Member(NamedTuple):
@@ -50,16 +50,17 @@ Wanted = set[bytes]
 # Of a paragraph of dpkg's status.
 Fields = dict[bytes, bytes]
 # The packages that people hear of first, by the title above them.
-Named = dict[str, list[str]]
+NamedPackages = dict[str, list[str]]
 
 
-def named_packages(rows: Iterable[tuple[str, str]]) -> Named:
+def named_packages(rows: Iterable[tuple[str, str]]) -> NamedPackages:
     """Packages by their titles, each once, in the order in which people read them."""
-    named: dict[str, dict[str, None]] = {UNSIGNED: {}, NEW: {}, REMOVED: {}}
+    titles = (UNSIGNED_PACKAGES, NEW_PACKAGES, REMOVED_PACKAGES)
+    named: dict[str, dict[str, None]] = {title: {} for title in titles}
     for title, name in rows:
         named[title][name] = None
-    for name in named[UNSIGNED]:
-        named[NEW].pop(name, None)
+    for name in named[UNSIGNED_PACKAGES]:
+        named[NEW_PACKAGES].pop(name, None)
     return {title: list(names) for title, names in named.items() if names}
 
 
@@ -151,7 +152,7 @@ class Dpkg:
                 names = [name for name in os.listdir(info) if name.endswith(LIST)]
         return [name[: -len(LIST)] for name in sorted(names)[:MAX_FILES]]
 
-    def named(self, changes: Table, has_pair: bool) -> Named:
+    def named(self, changes: Table, has_pair: bool) -> NamedPackages:
         """The packages whose list came or went, and, beside a trusted pair, those whose digests are
         not as in it."""
         return named_packages(self._named_rows(changes, has_pair))
@@ -164,11 +165,11 @@ class Dpkg:
             name, ending = match.groups()
             if ending == b"md5sums":
                 if has_pair and row.kind != "removed":
-                    yield UNSIGNED, shown(name, 100)
+                    yield UNSIGNED_PACKAGES, shown(name, 100)
             elif row.kind == "added":
-                yield NEW, shown(name, 100)
+                yield NEW_PACKAGES, shown(name, 100)
             elif row.kind == "removed" or self._package(name) is None:
-                yield REMOVED, shown(name, 100)
+                yield REMOVED_PACKAGES, shown(name, 100)
 
 
 def _version_in(fields: Fields) -> bytes:

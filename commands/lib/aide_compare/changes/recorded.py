@@ -14,7 +14,7 @@ from aide_compare.changes.rpm import Rpm
 from aide_compare.changes.table import Row, Table
 from aide_compare.lines.attributes import COLUMNS_OF_DIGESTS
 from aide_compare.lines.change import Change, Values
-from aide_compare.lines.decoded import exact_bytes
+from aide_compare.lines.readable import exact_bytes
 
 MAX_CONTENT = 2 << 30
 # So many findings, and so many bytes of their paths, are asked for at once.

@@ -13,7 +13,7 @@ from aide_compare.changes.packages import (
     Dpkg,
     Member,
     Members,
-    Named,
+    NamedPackages,
     Wanted,
     add_member,
     words_of,
@@ -80,7 +80,7 @@ class Rpm:
                 add_member(members, usr(fields[1]), member)
         return members
 
-    def named(self, _changes: Table, _has_pair: bool) -> Named:
+    def named(self, _changes: Table, _has_pair: bool) -> NamedPackages:
         """rpm's database is one file, which says of no package that it came or went."""
         return {}
 

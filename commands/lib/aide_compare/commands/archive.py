@@ -19,7 +19,7 @@ from aide_compare.changes.applied import INFO, KEPT, FieldsByColumn, Upgrades
 from aide_compare.changes.applied import content_of, fits, upgraded
 from aide_compare.changes.signed import Catalog, releases_of
 from aide_compare.commands.defaults import machines_databases
-from aide_compare.compare.kept_open import OLD, EntryReader
+from aide_compare.compare.kept_open import OLD_SIDE, EntryReader
 from aide_compare.compare.soundness import refuse_unsound
 from aide_compare.compare.unpack import Copy, copy_database
 
@@ -83,7 +83,7 @@ class Night:
         self.files: Entries = {}
         self.indexes: set[str] = set()
         reader = EntryReader(copy)
-        for key, _, line in reader.entries(OLD):
+        for key, _, line in reader.entries(OLD_SIDE):
             path = os.fsdecode(path_of(key))
             directory, name = os.path.split(path)
             own, ending = os.path.splitext(name)

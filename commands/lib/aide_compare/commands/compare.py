@@ -2,30 +2,318 @@
 from __future__ import annotations
 
 import os
-from collections.abc import Iterable, Sequence
+from collections.abc import Iterable, Mapping, Sequence
+from contextlib import suppress
 from typing import TYPE_CHECKING
 
-from aide_compare.base.ending import Fault, Status
+from aide_compare.base.ending import Fault, Status, write_blocks
 from aide_compare.base.escapes import shown
-from aide_compare.base.files import blocks_of
-from aide_compare.base.rights import give_up
-from aide_compare.base.words import date_of, words_of_side
-from aide_compare.commands.compare_task import (
-    CompareRequest,
-    Row,
-    Task,
-    checked,
-    given_by,
-    keep_failure,
-    with_defaults,
+from aide_compare.base.files import blocks_of, nameless
+from aide_compare.base.kinds import pattern
+from aide_compare.base.options import (
+    AFTER,
+    CONFIG,
+    EXCLUDE,
+    EXCLUDE_FROM,
+    MAX_AGE,
+    MAX_SIZE,
+    NO_DEFAULTS,
+    QUIET,
+    STATE,
+    TRUSTED,
+    USER,
+    Asked,
+    Operand,
+    Option,
+    field,
+    option,
 )
-from aide_compare.compare.comparison import Comparison
-from aide_compare.compare.outputs import STDOUT, descriptor_of, notes, stream_output
+from aide_compare.base.parser import Given, Parser, filled
+from aide_compare.base.replacement import ANYBODY_READS
+from aide_compare.base.rights import become_owner, give_up, rights_hint
+from aide_compare.base.words import date_of, words_of_side
+from aide_compare.commands.defaults import ADVICE, comparison_defaults, exclusions_of
+from aide_compare.compare.comparison import Comparison, ComparisonInput
+from aide_compare.compare.configuration import NONE
+from aide_compare.compare.outputs import (
+    STDOUT,
+    Output,
+    descriptor_of,
+    file_output,
+    notes,
+    open_output,
+    stream_output,
+)
 from aide_compare.compare.report import report_of
-from aide_compare.show.told import no_difference, told_of
+from aide_compare.compare.unpack import Opened
+from aide_compare.compare.work import FAILURES, compare_opened, failed_comparison, open_databases
+from aide_compare.lines.change import Counts
+from aide_compare.show.outputs import OUTPUTS
+from aide_compare.show.notes import no_difference, told_of
 
 if TYPE_CHECKING:
+    from aide_compare.base.paths import Pattern
     from aide_compare.changes.judged import Judged
+    from aide_compare.show.outputs import Maker
+
+NAME = "aide-compare compare"
+DESCRIPTION = """Compares two AIDE databases, plain or compressed by gzip, and prints what differs,
+the most severe first; with --report the report as AIDE does."""
+TRY = "try: aide-compare compare --help"
+USAGE = "aide-compare [compare] [OPTIONS] [OLD NEW]"
+EPILOG = """\
+Times are as in 90s, 15m, 26h or 3d; a plain number is seconds. Sizes are in bytes, or as in
+500k, 20M or 1G. Root becomes the user in whose directories the baseline and the outputs are, unless
+--user names another one.
+
+Status: 0 nothing to read; 1 added, 2 removed, 4 changed, and sums of these, by the changes that are
+not silent; above 7 no comparison. With --report that of aide-compare-program(8), by all changes."""
+
+
+class CompareRequest(Asked):
+    """What the options of a comparison ask for."""
+
+    is_quiet: bool = field(QUIET, help="print only why nothing was compared")
+    databases: Sequence[str] = field(
+        Operand(
+            "OLD NEW",
+            "the databases, - for standard input (those of the defaults)",
+            "*",
+            (),
+        )
+    )
+    configuration: str | None = field(CONFIG)
+    after: str = field(AFTER, default="")
+    state: str | None = field(
+        STATE, help="write the status, the time, the counts and both SHA-256 to FILE"
+    )
+    max_size: int = field(MAX_SIZE)
+    max_age: int = field(MAX_AGE)
+    exclude_from: Sequence[str] = field(EXCLUDE_FROM)
+    exclude: Sequence[str] = field(EXCLUDE)
+    trusted: Sequence[str] = field(TRUSTED, default=())
+    wants_report: bool = option(
+        "--report", "print the report as AIDE does, as with an option report_* in -A"
+    )
+    only: Pattern | None = option(
+        "--only",
+        "print the changes of these paths alone, as '/etc/**', with their values",
+        "PATTERN",
+        kind=pattern,
+    )
+    user: str | None = field(USER)
+    no_defaults: bool = field(NO_DEFAULTS)
+
+    @classmethod
+    def rows(cls) -> dict[str, Option | Operand]:
+        return {**super().rows(), **{row.option.attribute: row.option for row in OUTPUTS}}
+
+    @property
+    def outputs(self) -> Mapping[str, str]:
+        """The places of further outputs, by the names of their options."""
+        places = {row.option.name: vars(self)[row.option.attribute] for row in OUTPUTS}
+        return {name: path for name, path in places.items() if path}
+
+
+def given_by(arguments: Sequence[str], usage: str = USAGE) -> Given:
+    """What the arguments give."""
+    return Parser(CompareRequest, NAME, DESCRIPTION, EPILOG, usage).parse(arguments)
+
+
+def check_databases(request: CompareRequest) -> None:
+    """Refuses operands that do not name both databases."""
+    databases = request.databases
+    if len(databases) == 1:
+        raise Fault(Status.USAGE, "name both databases, OLD and NEW, or none", TRY)
+    if len(databases) > 2:
+        raise Fault(Status.USAGE, f"more than two databases: {shown(databases[-1], 200)}", TRY)
+    if request.configuration and not databases:
+        raise Fault(Status.USAGE, "--config names no databases: name OLD and NEW", TRY)
+
+
+def checked(given: Given) -> CompareRequest:
+    """What a command line alone asks for."""
+    request = filled(CompareRequest, given, {})
+    check_databases(request)
+    return request
+
+
+def with_defaults(given: Given, arguments: Sequence[str]) -> CompareRequest:
+    """What the arguments ask for that give these values, and the administrator's defaults where
+    these say nothing."""
+    defaults = comparison_defaults(given["databases"], arguments)
+    return filled(CompareRequest, given, defaults)
+
+
+def work_request(request: CompareRequest) -> ComparisonInput:
+    """What is compared, and how."""
+    check_databases(request)
+    if not request.databases:
+        raise Fault(Status.USAGE, "no databases are named", ADVICE)
+    if [*request.databases, *request.trusted].count("-") > 1:
+        raise Fault(Status.USAGE, "standard input can hold only one database")
+    old, new = request.databases
+    return ComparisonInput(
+        old=old,
+        new=new,
+        configuration=request.configuration or NONE,
+        after=request.after,
+        max_size=request.max_size,
+        max_age=request.max_age,
+        exclusions=exclusions_of(request.exclude_from, request.exclude, not request.no_defaults),
+        trusted=request.trusted,
+    )
+
+
+def keep_failure(path: str | None, error: Exception) -> None:
+    """Writes into the state file that a run has failed before it could begin, as by a fault in the
+    defaults: otherwise the result of an earlier run would look like that of today."""
+    if path is None:
+        return
+    with suppress(Fault, OSError):
+        become_owner(path)
+        place = file_output(path, "the state file", ANYBODY_READS)
+        place([failed_comparison(error).state().text()])
+
+
+class Row:
+    """An output: its place, which is open before anything is compared, and what makes its bytes.
+    These are made before any place gets its own. An output `of_failure` is made if nothing was
+    compared, too: its few bytes are in memory, so that it needs no disk and no descriptor."""
+
+    def __init__(self, place: Output, make: Maker, of_failure: bool = False) -> None:
+        self.place = place
+        self.make = make
+        self.of_failure = of_failure
+        self.blocks: Iterable[bytes] = ()
+
+    def write(self, comparison: Comparison, judged: Judged | None) -> None:
+        """Makes the bytes."""
+        blocks = self.make(comparison, judged)
+        if self.of_failure:
+            self.blocks = [b"".join(blocks)]
+        else:
+            target = nameless()
+            write_blocks(target, blocks)
+            self.blocks = blocks_of(target)
+
+
+def output_rows(request: CompareRequest) -> list[Row]:
+    """The outputs that options name, each with its place."""
+    rows = []
+    for row in OUTPUTS:
+        path = request.outputs.get(row.option.name)
+        if path:
+            what = f"the output of {row.option.name}"
+            rows.append(Row(open_output(path, what), row.make))
+    return rows
+
+
+def state_bytes(comparison: Comparison, _judged: Judged | None) -> Sequence[bytes]:
+    return [comparison.state().text()]
+
+
+class ComparisonJob:
+    """A comparison that is carried out, and its outputs. `judges`: one of these needs its changes
+    with their standings."""
+
+    def __init__(
+        self,
+        request: CompareRequest,
+        before: Sequence[Row] = (),
+        after: Sequence[Row] = (),
+        judges: bool = True,
+    ) -> None:
+        self.judges = judges
+        self.options = request
+        self.request = work_request(request)
+        self.before = before
+        self.after = after
+        self.rows: Sequence[Row] = ()
+
+    def carry_out(self) -> Comparison:
+        """Compares, judges, and writes what is wanted. Root opens the databases, and then becomes
+        for good the user in whose directories the baseline and the outputs are."""
+        comparison = Comparison(self.request)
+        opened: Sequence[Opened] = ()
+        try:
+            opened = open_databases(comparison)
+        except FAILURES as error:
+            comparison.fail(error)
+        user = None
+        if not self.options.user:
+            user = self._become_owner(self.request.old)
+        self._open_outputs(user)
+        if not comparison.has_failed:
+            compare_opened(comparison, opened)
+            if user is not None:
+                comparison.explain(rights_hint(user))
+        self._make(comparison)
+        self._put(comparison)
+        return comparison
+
+    def _become_owner(self, baseline: str) -> int | None:
+        try:
+            return become_owner(*filter(None, (baseline, *self._files())))
+        except Fault as fault:
+            keep_failure(self.options.state, fault)
+            raise
+
+    def _files(self) -> list[str]:
+        """The paths of the outputs that are files."""
+        paths = [path for path in self.options.outputs.values() if descriptor_of(path) is None]
+        return [*paths, self.options.state] if self.options.state else paths
+
+    def _open_outputs(self, user: int | None) -> None:
+        """Opens the places of the outputs, as this user may write them."""
+        state_file = None
+        try:
+            if self.options.state:
+                state_file = file_output(self.options.state, "the state file", ANYBODY_READS)
+            rows = [*self.before, *output_rows(self.options)]
+        except Fault as fault:
+            if user is not None:
+                fault = Fault(fault.status, fault.text, *fault.more, rights_hint(user))
+            keep_failure(self.options.state, fault)
+            raise fault
+        if state_file:
+            rows.append(Row(state_file, state_bytes, of_failure=True))
+        self.rows = [*rows, *self.after]
+
+    def _make(self, comparison: Comparison) -> None:
+        """Judges a comparison, and makes all outputs. What fails meanwhile has ended it."""
+        judged = None
+        try:
+            if self.judges and comparison.status == 0:
+                comparison.standings = Counts()
+            elif self.judges and comparison.differs:
+                # The modules for it are more than all others together.
+                from aide_compare.show.judgement import judge
+
+                judged = judge(comparison)
+            for row in self.rows:
+                if not (row.of_failure or comparison.has_failed):
+                    row.write(comparison, judged)
+        except FAILURES as error:
+            comparison.fail(error)
+        for row in self.rows:
+            if row.of_failure:
+                row.write(comparison, judged)
+
+    def _put(self, comparison: Comparison) -> None:
+        """Hands the outputs to their places, in their order. If that is not possible, nothing was
+        compared."""
+        try:
+            for row in self.rows:
+                if row.of_failure or not comparison.has_failed:
+                    row.place(row.blocks)
+        except FAILURES as error:
+            if comparison.has_failed:
+                raise
+            comparison.fail(error)
+            self._make(comparison)
+            self._put(comparison)
+
 
 NO_LIST = "the report knows no list: it has what is left out elsewhere, and AIDE's status"
 # What standard output gets, unless -q says otherwise: what people read first, the changes of some
@@ -59,14 +347,14 @@ class Printer:
         self.form = form_of(request)
         self.is_printed = self.form != NOTHING and not request.is_quiet
 
-    def task(self) -> Task:
+    def task(self) -> ComparisonJob:
         """The comparison that prints so."""
         before = [Row(notes, self._notes)]
         if self.is_printed:
             before.append(Row(stream_output(STDOUT, "cannot write the report"), self._printed))
         after = [Row(notes, self._failure, of_failure=True)]
         judges = self.form != REPORT or self.request.outputs or self.request.state
-        return Task(self.request, before, after, bool(judges))
+        return ComparisonJob(self.request, before, after, bool(judges))
 
     def status_of(self, comparison: Comparison) -> int:
         """The status of the command. A report has AIDE's."""

@@ -19,8 +19,8 @@ from aide_compare.base.parser import read
 from aide_compare.base.paths import Pattern
 from aide_compare.base.processes import limit_memory
 from aide_compare.commands import accept
-from aide_compare.commands.accept_work import AcceptRequest
-from aide_compare.hosts.store import BASELINE, MAX_BASELINE, MAX_MEMORY, NEW, HostDirectory
+from aide_compare.commands.accept import AcceptRequest
+from aide_compare.hosts.store import BASELINE, MAX_BASELINE, MAX_MEMORY, NEW_FILE, HostDirectory
 
 NAME = "aide-compare hosts accept"
 DESCRIPTION = """\
@@ -59,10 +59,10 @@ def main(arguments: Sequence[str]) -> int:
         raise Fault(Status.USAGE, "give --sha256", f"try: {NAME} --help")
     limit_memory(MAX_MEMORY)
     directory = HostDirectory(request.store, request.host, request.seconds)
-    if not directory.has(NEW):
+    if not directory.has(NEW_FILE):
         raise directory.fault("nothing was fetched yet; see aide-compare hosts add --help")
     next_baseline = AcceptRequest(
-        new=directory.file(NEW),
+        new=directory.file(NEW_FILE),
         baseline=directory.file(BASELINE),
         digest=request.digest,
         keep_open=request.keep_open,

@@ -1,5 +1,5 @@
-"""aide-compare hosts add: fetches the first database of a host, asks whether it is the right one, or
-is told its SHA-256, and watches the host from then on."""
+"""aide-compare hosts add: fetches the first database of a host, asks whether it is right, or is told
+its SHA-256, and watches the host from then on."""
 from __future__ import annotations
 
 import os
@@ -16,7 +16,7 @@ from aide_compare.compare.soundness import refuse_unsound
 from aide_compare.compare.unpack import copy_database
 from aide_compare.hosts.fetching import DATABASE, ask_for_key, fetch
 from aide_compare.hosts.hosts_file import add_host
-from aide_compare.hosts.store import BASELINE, MAX_BASELINE, MAX_MEMORY, NEW, HostDirectory
+from aide_compare.hosts.store import BASELINE, MAX_BASELINE, MAX_MEMORY, NEW_FILE, HostDirectory
 from aide_compare.hosts.store import write_cause
 
 NAME = "aide-compare hosts add"
@@ -65,7 +65,7 @@ def add(request: AddRequest, host: str) -> int:
     if not request.digest:
         ask_for_key(directory)
     fetch(directory, 1)
-    copy = copy_database("new", directory.file(NEW), MAX_BASELINE)
+    copy = copy_database("new", directory.file(NEW_FILE), MAX_BASELINE)
     refuse_unsound(copy)
     if not request.digest:
         ask(directory.host, copy.sha256)
@@ -74,7 +74,7 @@ def add(request: AddRequest, host: str) -> int:
         raise directory.fault(text, Status.DATABASE)
     add_host(directory.host, request.hosts_file)
     try:
-        directory.copy(NEW, BASELINE)
+        directory.copy(NEW_FILE, BASELINE)
     except OSError as error:
         raise directory.fault(f"cannot keep its baseline: {write_cause(error)}")
     if not request.is_quiet:

@@ -12,7 +12,7 @@ from aide_compare.compare.asking import errors_of_list
 from aide_compare.hosts.canary import Run, keep_run, trusted_pair
 from aide_compare.hosts.host_comparison import MAX_JUDGED, MAX_KEPT, HostsRequest
 from aide_compare.hosts.hosts_file import hosts_of
-from aide_compare.hosts.reported import HostCounts
+from aide_compare.hosts.report_values import HostCounts
 from aide_compare.hosts.workers import HostResult, results, without_name
 
 NAME = "aide-compare hosts compare"

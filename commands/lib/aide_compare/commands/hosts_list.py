@@ -10,7 +10,7 @@ from aide_compare.base.parser import read
 from aide_compare.base.words import date_of
 from aide_compare.hosts.hosts_file import hosts_of
 from aide_compare.hosts.hosts_read import read_host, words_of
-from aide_compare.hosts.reported import Host
+from aide_compare.hosts.report_values import Host
 
 NAME = "aide-compare hosts list"
 DESCRIPTION = (

@@ -34,10 +34,10 @@ from aide_compare.hosts.hosts_page import page
 from aide_compare.hosts.hosts_file import hosts_of
 from aide_compare.hosts.hosts_read import read_host
 from aide_compare.hosts.hosts_text import Report, headline, report_lines, short_lines
-from aide_compare.hosts.reported import CUT, UNREADABLE, HostCounts, Summary
+from aide_compare.hosts.report_values import CUT, UNREADABLE, HostCounts, Summary
 from aide_compare.lines.reader import ENCODE
 from aide_compare.mail.message import build, clean, within
-from aide_compare.mail.sending import alert, deliver, way_out
+from aide_compare.mail.sending import alert, deliver, sendmail_transport
 
 NAME = "aide-compare hosts report"
 MAX_NAMES = 20  # Of the hosts of a change, for people.
@@ -134,7 +134,7 @@ class HostsReport:
         """Sends one mail about all hosts; if there is nothing to say, a heartbeat if one is due."""
         title = headline(self.report.summary)
         try:
-            way = way_out(request.mail_seconds)
+            way = sendmail_transport(request.mail_seconds)
         except Fault as fault:
             alert(f"{fault.text}; {title}")
             raise

@@ -1,35 +1,201 @@
 """aide-compare mail: compares two databases and mails what differs, or why nothing was compared."""
 from __future__ import annotations
 
+import argparse
 import os
 import shlex
 import time
-from collections.abc import Callable, Sequence
+from collections.abc import Callable, Iterator, Sequence
 from contextlib import closing, suppress
 from functools import partial
+from typing import Optional
 
-from aide_compare.base.ending import Fault, Status
-from aide_compare.base.options import DAYS
+from aide_compare.base.ending import Fault, Status, say, why_of, write_all
+from aide_compare.base.escapes import guarded
+from aide_compare.base.kinds import unit_name
+from aide_compare.base.options import (
+    ATTACH_PAGE,
+    DAYS,
+    MAIL_DEFAULTS,
+    MAIL_TIME,
+    TO,
+    WEEKLY,
+    field,
+    option,
+)
+from aide_compare.base.parser import Defaults, Given, Parser, defaults_for, filled
 from aide_compare.base.replacement import Replacement
 from aide_compare.base.rights import become_owner, give_up
-from aide_compare.commands.compare_task import Row, Task, keep_failure
-from aide_compare.commands.mail_message import ColumnsBefore, message_of
-from aide_compare.commands.mail_request import MailRequest, request_of
+from aide_compare.changes.judged import Judged
+from aide_compare.commands.compare import CompareRequest, Row, ComparisonJob, checked, keep_failure
+from aide_compare.commands.defaults import comparison_defaults
+from aide_compare.compare.comparison import Comparison
 from aide_compare.compare.state import State, read_state
 from aide_compare.compare.work import failed_comparison
+from aide_compare.lines.reader import Outline, Reader, Refused, reader_over
 from aide_compare.mail.message import build, clean, host_name, subject_of
-from aide_compare.mail.sending import Way, alert, deliver, send_all, way_in, way_out
+from aide_compare.mail.sending import Transport, alert, deliver, queue_transport, send_all
+from aide_compare.mail.sending import sendmail_transport
+from aide_compare.mail.text import Mail, fault_lines, note_lines, text_of_changes, text_of_unjudged
 from aide_compare.show.result import result_text
+from aide_compare.show.notes import told_of
+
+NAME = "aide-compare mail"
+USAGE = "%(prog)s [OPTIONS] [OLD NEW]"
+DESCRIPTION = """\
+Compares as aide-compare does, with its options. Sends a mail of at most 80 lines if a change is not
+silent, or with the errors if nothing was compared."""
+EPILOG = """\
+Status: that of aide-compare-compare(1); 18 if no mail can be sent. With --alarm-sent-is-success
+it is 0 if the mail was sent or kept in the queue."""
+
+
+class MailRequest(CompareRequest):
+    """What the options ask for."""
+
+    address: str = field(TO, default="root", help="where the mail goes (root)")
+    seconds: int = field(MAIL_TIME)
+    has_page: bool = field(ATTACH_PAGE)
+    is_test: bool = option("--test", "compare nothing, and send a test mail the same way")
+    weekly: str | None = field(WEEKLY)
+    # Of the units: keep the mail in a directory, send the mails of one, and mail first that a unit
+    # has failed.
+    queue: str | None = option("--queue", argparse.SUPPRESS, "DIRECTORY")
+    send_queue: str | None = option("--send-queue", argparse.SUPPRESS, "DIRECTORY")
+    unit_failed: str | None = option("--unit-failed", argparse.SUPPRESS, "NAME", kind=unit_name)
+    sent_is_success: bool = option(
+        "--alarm-sent-is-success", "end with 0 also after differences or errors that were mailed"
+    )
+    fault: Fault | None  # Of the defaults: it is mailed.
+    notes: Sequence[str]  # What has to be said of the defaults.
+
+
+def parser() -> Parser:
+    return Parser(MailRequest, NAME, DESCRIPTION, EPILOG, USAGE)
+
+
+def refuse_contradictions(request: MailRequest, given: Given) -> None:
+    """Refuses what means nothing without another word, or with it."""
+    checked(given)
+    if "weekly" in given and not request.state:
+        text = "--weekly needs --state, beside which a file says when the last one was sent"
+        raise Fault(Status.USAGE, text)
+    if request.unit_failed and not request.send_queue:
+        raise Fault(Status.USAGE, "--unit-failed needs --send-queue")
+    if request.send_queue and (request.queue or request.is_test or request.state):
+        raise Fault(Status.USAGE, "--send-queue goes with none of --queue, --test and --state")
+    if (request.send_queue or request.is_test) and given["databases"]:
+        raise Fault(Status.USAGE, "with --send-queue or --test no databases are compared")
+
+
+def request_of(words: Sequence[str]) -> MailRequest:
+    """What the options ask for, and the administrator's defaults where they say nothing. A fault of
+    the defaults costs no mail, and the mail says it."""
+    given = parser().parse(words)
+    compares = "send_queue" not in given and "is_test" not in given
+    defaults: Defaults = {}
+    notes: list[str] = []
+    fault = None
+    try:
+        if compares:
+            defaults = comparison_defaults(given["databases"], words, note=notes.append)
+        defaults.update(defaults_for(MAIL_DEFAULTS, words))
+    except Fault as error:
+        fault = error
+        if not compares:
+            say(error.text)
+    request = filled(MailRequest, given, defaults)
+    refuse_contradictions(request, given)
+    return request.but(fault=fault, notes=notes)
+
+
+MAX_PAGE = 1 << 19  # Bytes of the page of a mail.
+# The columns that the last run has not compared; None if no state says it.
+ColumnsBefore = Optional[Sequence[str]]
+
+
+def message_of(
+    request: MailRequest,
+    before: ColumnsBefore,
+    comparison: Comparison,
+    judged: Judged | None,
+) -> Iterator[bytes]:
+    """The mail of a comparison; nothing if it is no alarm. A column that is not compared is one,
+    unless the last run has not compared it either."""
+    state = comparison.state()
+    if comparison.status == Status.USAGE:  # Who has typed it sees it at once.
+        write_all(2, told_of(comparison).encode("utf-8", "backslashreplace"))
+    columns: list[str] = []
+    if before is not None:
+        columns = [name for name in state.skipped if name not in before]
+    if not (state.told_status or columns or comparison.warnings):
+        return
+    notes = notes_of(request, comparison)
+    page = None
+    if request.has_page and comparison.differs:
+        page = page_of(comparison, judged, notes)
+    lines = lines_of_mail(request, comparison, judged, notes)
+    text = clean("".join(f"{line}\n" for line in lines))
+    subject = subject_of(state, columns, comparison.warnings)
+    yield build(request.address, subject, text, page)
+
+
+def notes_of(request: MailRequest, comparison: Comparison) -> list[str]:
+    """The lines beside the changes: what was not compared, what the program says, and what is wrong
+    with the defaults."""
+    warnings = {f"aide-compare: {guarded(warning)}" for warning in comparison.warnings}
+    notes = [line for line in told_of(comparison).split("\n") if line and line not in warnings]
+    return notes + [f"{NAME}: {note}" for note in request.notes]
+
+
+def lines_of_mail(
+    request: MailRequest, comparison: Comparison, judged: Judged | None, notes: Sequence[str]
+) -> list[str]:
+    """The lines of the text."""
+    if comparison.has_failed:
+        return fault_lines(notes)
+    warnings = [guarded(warning) for warning in comparison.warnings]
+    if not comparison.differs:
+        return [*note_lines(warnings), *note_lines(notes)]
+    mail = Mail(comparison.state(), warnings, notes)
+    if judged is None:
+        lines = comparison.known_lines()
+        changes = whole_changes(reader_over(lines.fd))
+        return text_of_unjudged(mail, lines.end.kinds, changes)
+    return text_of_changes(mail, judged)
+
+
+def whole_changes(reader: Reader) -> Iterator[Outline]:
+    """Changes as far as they are there: lines that were cut have no end."""
+    with suppress(Refused):
+        yield from reader.outlines()
+
+
+def page_of(comparison: Comparison, judged: Judged | None, notes: list[str]) -> bytes | None:
+    """The page of the changes, or a note why there is none: an alarm is not lost for that."""
+    why = "the changes are not known"
+    if judged is not None:
+        try:
+            from aide_compare.show.outputs import all_lines
+            from aide_compare.show.page import page_of as parts_of
+
+            parts = parts_of(comparison, judged, all_lines(comparison), MAX_PAGE)
+            return b"".join(parts)
+        except Exception as error:
+            why = why_of(error)
+    notes.append(f"{NAME}: there is no page: {why}")
+    return None
+
 
 WEEK = 7 * 86400
 TEST_TEXT = "This is a test of aide-compare mail. Mails of this host arrive.\n"
 
 
-def way_of(request: MailRequest) -> Way:
+def transport_for(request: MailRequest) -> Transport:
     """The way of a mail; none leaves before that is there."""
     if request.queue:
-        return way_in(request.queue)
-    return way_out(request.seconds)
+        return queue_transport(request.queue)
+    return sendmail_transport(request.seconds)
 
 
 def short_mail(request: MailRequest, subject: str, text: str) -> bytes:
@@ -60,7 +226,7 @@ def compared(request: MailRequest) -> tuple[State, bytes]:
         if request.fault:
             raise request.fault
         row = Row(mail.extend, partial(message_of, request, before), of_failure=True)
-        ended = Task(request, after=[row]).carry_out()
+        ended = ComparisonJob(request, after=[row]).carry_out()
         return ended.state(), b"".join(mail)
     except (Fault, MemoryError, OSError) as error:
         keep_failure(request.state, error)
@@ -80,7 +246,7 @@ def columns_before(request: MailRequest) -> ColumnsBefore:
 def compare_and_mail(request: MailRequest) -> int:
     state, message = compared(request)
     try:
-        way = way_of(request)
+        way = transport_for(request)
     except Fault as fault:
         subject = subject_of(state) if state.status else "no difference"
         alert(f"{fault.text}; {subject}")
@@ -107,7 +273,7 @@ def failure_text(unit: str) -> str:
 
 def empty_queue(request: MailRequest, directory: str) -> int:
     """Sends what waits, and first that the unit that should have queued a mail has failed."""
-    way = way_of(request)
+    way = transport_for(request)
     if request.unit_failed:
         text = failure_text(request.unit_failed)
         deliver(way, short_mail(request, "the comparison failed", text))
@@ -124,6 +290,6 @@ def main(arguments: Sequence[str]) -> int:
     if request.send_queue:
         return empty_queue(request, request.send_queue)
     if request.is_test:
-        deliver(way_of(request), short_mail(request, "test", TEST_TEXT))
+        deliver(transport_for(request), short_mail(request, "test", TEST_TEXT))
         return Status.OK
     return compare_and_mail(request)

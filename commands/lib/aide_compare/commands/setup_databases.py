@@ -11,7 +11,7 @@ from aide_compare.base.options import DATABASES
 from aide_compare.commands.setup_machine import PATHS
 from aide_compare.commands.setup_options import options_there
 from aide_compare.compare.asking import settings_of
-from aide_compare.compare.configuration import Texts, configuration_in
+from aide_compare.compare.configuration import ConfigurationTexts, configuration_in
 
 # Lines with the options of other files, which name no database.
 INCLUDES = rb"(?m)^[ \t]*@@(?:x_)?include[^\n]*"
@@ -46,6 +46,6 @@ def databases_there() -> list[str]:
 
 def named_by(text: bytes) -> list[str]:
     """The databases that a configuration names, the old one first."""
-    settings = settings_of(Texts(text, b"")) or {}
+    settings = settings_of(ConfigurationTexts(text, b"")) or {}
     paths = [settings.get(name) for name in ("database_in", "database_new")]
     return [os.fsdecode(str(path).encode()) for path in paths if path is not None]

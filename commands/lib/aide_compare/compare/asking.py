@@ -14,7 +14,7 @@ from aide_compare.base.processes import Taker
 from aide_compare.base.program import CONFIGURATION, DATABASES, DESCRIPTORS, LINES, Answer, Drain
 from aide_compare.base.program import find_installed, run_program
 from aide_compare.base.words import TRUSTED_SIDES
-from aide_compare.compare.configuration import Texts
+from aide_compare.compare.configuration import ConfigurationTexts
 from aide_compare.lines.rights import RIGHTS
 
 # What the program says of a configuration: the values of its options by their names.
@@ -39,7 +39,7 @@ def odd_answer(program: str, answer: Answer) -> Fault:
 def _ask(
     program: str,
     words: list[bytes],
-    texts: Texts,
+    texts: ConfigurationTexts,
     places: Mapping[int, int],
     take: Taker,
     first: bytes = b"",
@@ -55,7 +55,7 @@ def _ask(
 
 def ask_for_changes(
     program: str,
-    texts: Texts,
+    texts: ConfigurationTexts,
     databases: Mapping[str, int],
     take: Taker,
     forced: Collection[str] = (),
@@ -83,7 +83,7 @@ def ask_for_changes(
 
 
 def ask_for_lines(
-    texts: Texts, databases: Mapping[str, int], without: bytes, take: Taker
+    texts: ConfigurationTexts, databases: Mapping[str, int], without: bytes, take: Taker
 ) -> Answer:
     """Asks for the lines of the changes. Each has the rights of both sides, and the attributes that
     the texts force themselves. `without`: the list of what is left out."""
@@ -98,11 +98,12 @@ def errors_of_list(text: bytes) -> bytes:
     """What the program says of a list, which it reads before any database: nothing if the list has
     no fault."""
     take = Drain(0, bytearray().extend).take
-    answer = ask_for_changes(find_installed(LINES), Texts(b"", b""), {}, take, without=text)
+    texts = ConfigurationTexts(b"", b"")
+    answer = ask_for_changes(find_installed(LINES), texts, {}, take, without=text)
     return answer.errors if answer.status == Status.CONFIGURATION else b""
 
 
-def settings_of(texts: Texts) -> Settings | None:
+def settings_of(texts: ConfigurationTexts) -> Settings | None:
     """What the program says of texts, without any database; None if it refuses them."""
     written = bytearray()
     program = find_installed(LINES)

@@ -11,7 +11,7 @@ from aide_compare.base.escapes import shown, shown_lines
 from aide_compare.base.options import MAX_DATABASE_BYTES, MAX_REPORT_BYTES
 from aide_compare.base.program import Answer
 from aide_compare.base.words import TRUSTED_SIDES
-from aide_compare.compare.configuration import NONE, Texts
+from aide_compare.compare.configuration import NONE, ConfigurationTexts
 from aide_compare.compare.state import State
 from aide_compare.compare.unpack import Copy
 from aide_compare.lines.change import Counts
@@ -26,7 +26,7 @@ MAX_NAME = 4000
 NO_COPIES: Mapping[str, Copy] = MappingProxyType({})
 
 
-class Request(NamedTuple):
+class ComparisonInput(NamedTuple):
     """Two databases to compare, and how."""
 
     old: str  # Its path.
@@ -62,9 +62,9 @@ class Lines(NamedTuple):
 class Comparison:
     """A comparison: what is known of it so far, and then what came out of it."""
 
-    def __init__(self, request: Request) -> None:
+    def __init__(self, request: ComparisonInput) -> None:
         self.request = request
-        self.texts = Texts(b"", b"")  # What the program reads beside the databases.
+        self.texts = ConfigurationTexts(b"", b"")  # What the program reads beside the databases.
         self.time = 0  # When it ended.
         self.status = 0
         self.fault: Fault | None = None  # Why nothing was compared, unless the program says it.

@@ -14,7 +14,7 @@ NONE = "/dev/null"
 MAX_BYTES = 4194304
 
 
-class Texts(NamedTuple):
+class ConfigurationTexts(NamedTuple):
     """The text of a configuration, and of the lines after it."""
 
     config: bytes

@@ -9,7 +9,7 @@ from collections.abc import Iterator, Mapping
 from aide_compare.base.database import MAX_LINE, Kind, Layout
 from aide_compare.base.escapes import shown
 from aide_compare.base.files import reopened
-from aide_compare.compare.configuration import Texts
+from aide_compare.compare.configuration import ConfigurationTexts
 from aide_compare.compare.unpack import Copy
 
 LINE = rb"aide: ((?:trusted )?(?:old|new) database|config|after):(\d+): (.*)"
@@ -72,7 +72,9 @@ def _configuration_hints(number: int, text: bytes) -> Iterator[str]:
         yield f"line {number}: {shown(line, 200)}"
 
 
-def hints_of(errors: bytes, texts: Texts, path: str, copies: Mapping[str, Copy]) -> list[str]:
+def hints_of(
+    errors: bytes, texts: ConfigurationTexts, path: str, copies: Mapping[str, Copy]
+) -> list[str]:
     """The lines that explain the first error line over texts, the path of the configuration, and
     the copies that were made."""
     match = re.match(LINE, errors)

@@ -18,8 +18,8 @@ from aide_compare.base.files import BLOCK, nameless, reopened
 from aide_compare.base.paths import Pattern, path_of
 from aide_compare.compare.unpack import Copy
 
-OLD = 0
-NEW = 1
+OLD_SIDE = 0
+NEW_SIDE = 1
 
 
 class Patterns:
@@ -94,9 +94,9 @@ class Merged(NamedTuple):
 
 def _kind_of(lines: dict[int, bytes]) -> str:
     """How a path has changed, by the lines of both sides."""
-    if OLD not in lines:
+    if OLD_SIDE not in lines:
         return "added"
-    if NEW not in lines:
+    if NEW_SIDE not in lines:
         return "removed"
     return "changed"
 
@@ -110,13 +110,13 @@ def keep_open(old: Copy, new: Copy, is_open: Callable[[bytes], bool]) -> Merged:
         with open(os.dup(target), "wb", BLOCK) as file:
             former = EntryReader(old)
             latter = EntryReader(new, file.write)
-            entries = merge(former.entries(OLD), latter.entries(NEW))
+            entries = merge(former.entries(OLD_SIDE), latter.entries(NEW_SIDE))
             for key, group in groupby(entries, key_of_entry):
                 lines = {entry.side: entry.line for entry in group}
-                side = NEW
-                if lines.get(OLD) != lines.get(NEW) and is_open(key):
+                side = NEW_SIDE
+                if lines.get(OLD_SIDE) != lines.get(NEW_SIDE) and is_open(key):
                     counts[_kind_of(lines)] += 1
-                    side = OLD
+                    side = OLD_SIDE
                 if side in lines:
                     file.write(lines[side])
             if former.columns != latter.columns:

@@ -3,7 +3,7 @@ from __future__ import annotations
 
 from aide_compare.base.ending import Fault, Status
 from aide_compare.base.escapes import shown, shown_lines
-from aide_compare.compare.comparison import Comparison, Request
+from aide_compare.compare.comparison import Comparison, ComparisonInput
 from aide_compare.compare.unpack import Copy
 from aide_compare.compare.work import compare
 
@@ -12,7 +12,7 @@ MAX_ERROR_LINE = 1000
 
 
 def read_by_program(old: Copy, new: Copy) -> Comparison:
-    request = Request(
+    request = ComparisonInput(
         old="",
         new="",
         copies={"old": old, "new": new},

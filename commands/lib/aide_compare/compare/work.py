@@ -13,8 +13,8 @@ from aide_compare.base.files import nameless
 from aide_compare.base.program import LINES, Answer, Drain, Tail, find_installed
 from aide_compare.base.words import SIDES, TRUSTED_SIDES, age_in_words, counted, words_of_side
 from aide_compare.compare.asking import Settings, ask_for_lines, odd_answer, settings_of
-from aide_compare.compare.comparison import Comparison, Lines, Refusal, Request
-from aide_compare.compare.configuration import Texts, configuration_in
+from aide_compare.compare.comparison import Comparison, Lines, Refusal, ComparisonInput
+from aide_compare.compare.configuration import ConfigurationTexts, configuration_in
 from aide_compare.compare.hints import column_notes, equal_notes, hints_of, order_notes, skipped_in
 from aide_compare.compare.unpack import Opened, copy_opened, open_database
 from aide_compare.lines.reader import ODD, end_of
@@ -33,7 +33,7 @@ def open_databases(comparison: Comparison) -> Sequence[Opened]:
     be compared. The comparison itself may be done with the rights of another user."""
     request = comparison.request
     config = configuration_in(request.configuration)
-    comparison.texts = Texts(config, os.fsencode(request.after))
+    comparison.texts = ConfigurationTexts(config, os.fsencode(request.after))
     if request.copies:
         return ()
     names = (request.old, request.new)
@@ -110,7 +110,7 @@ def read_lines(comparison: Comparison) -> Lines:
     return Lines(target, drain.is_cut, end)
 
 
-def compare(request: Request) -> Comparison:
+def compare(request: ComparisonInput) -> Comparison:
     """Compares two databases. What ends it is told by the status and the fault, never by an
     exception."""
     comparison = Comparison(request)
@@ -123,7 +123,7 @@ def compare(request: Request) -> Comparison:
 
 def failed_comparison(error: BaseException) -> Comparison:
     """The comparison of a run that an exception has ended before it could begin."""
-    comparison = Comparison(Request(old="", new=""))
+    comparison = Comparison(ComparisonInput(old="", new=""))
     comparison.fail(error)
     return comparison
 

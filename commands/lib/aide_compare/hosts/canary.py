@@ -18,8 +18,8 @@ from aide_compare.compare.state import State, read_state
 from aide_compare.compare.unpack import Copy, copy_database
 from aide_compare.hosts.host_comparison import HostsRequest
 from aide_compare.hosts.hosts_read import KeptChanges, host_of
-from aide_compare.hosts.reported import WHOLE, Host
-from aide_compare.hosts.store import BASELINE, MAX_BASELINE, NEW, HostDirectory
+from aide_compare.hosts.report_values import WHOLE, Host
+from aide_compare.hosts.store import BASELINE, MAX_BASELINE, NEW_FILE, HostDirectory
 
 # In the store what the last run over its hosts knew of its canary.
 RUN = "canary"
@@ -59,7 +59,7 @@ def trusted_pair(host: str, request: HostsRequest) -> tuple[Run, Mapping[str, Co
         state = read_state(directory.state_path)
         refuse_cut(directory, state)
         digests = (state.old_sha256, state.new_sha256)
-        for side, name, digest in zip(TRUSTED_SIDES, (BASELINE, NEW), digests):
+        for side, name, digest in zip(TRUSTED_SIDES, (BASELINE, NEW_FILE), digests):
             copies[side] = copy_database(side, directory.file(name), MAX_BASELINE)
             if copies[side].sha256 != digest:
                 raise directory.fault(f"{name} is not the database that was compared")
@@ -68,10 +68,12 @@ def trusted_pair(host: str, request: HostsRequest) -> tuple[Run, Mapping[str, Co
 
 
 def keep_run(store: str, run: Run | None) -> None:
-    """Keeps what a run knew of its canary for the commands that follow; none if it had none."""
+    """Keeps what a run knew of its canary for the commands that follow. One without a canary may be
+    over some hosts only, so that the others still are silent beside the last one."""
     path = f"{store}/{RUN}"
     if run is None:
-        with suppress(FileNotFoundError):
+        known = run_in(store)
+        if known and not known.sha256:
             os.unlink(path)
         return
     text = json.dumps(run._replace(note=guarded(run.note)[:MAX_NOTE]))
@@ -114,7 +116,8 @@ def notes_of(store: str, hosts: Sequence[Host]) -> CanaryNotes:
         run = run_in(store)
     except Fault as fault:
         run = Run("", fault.text)
-    if run is None:
+    is_beside = any(host.state and host.state.trusted_new for host in hosts)
+    if run is None or (run.sha256 and not is_beside):
         return CanaryNotes([], False)
     if is_in_report(run, hosts):
         return CanaryNotes([run.note], False)

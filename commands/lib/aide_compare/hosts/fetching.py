@@ -10,7 +10,7 @@ from aide_compare.base.ending import Fault, failing, write_all
 from aide_compare.base.escapes import shown
 from aide_compare.base.replacement import NewFile
 from aide_compare.base.processes import NOT_STARTED, OverTime, run, run_here
-from aide_compare.hosts.store import CAUSE, NEW, HostDirectory, write_cause
+from aide_compare.hosts.store import CAUSE, NEW_FILE, HostDirectory, write_cause
 
 DATABASE = "/var/lib/aide/aide.db.new"
 # A forced command in authorized_keys of the host stands above this one, and may name another file.
@@ -90,7 +90,7 @@ def fetch(directory: HostDirectory, jobs: int) -> None:
             with closing(NewFile(directory.fd)) as part:
                 transfer(directory, part, min(MAX_SENT, directory.room(jobs)))
                 if not is_same(part, directory):
-                    part.put(NEW)
+                    part.put(NEW_FILE)
                 directory.remove(CAUSE)
     except Fault as fault:
         directory.not_fetched(fault.text)
@@ -100,6 +100,6 @@ def fetch(directory: HostDirectory, jobs: int) -> None:
 
 def is_same(part: NewFile, directory: HostDirectory) -> bool:
     """Whether what came has the bytes of what was fetched before."""
-    if not directory.has(NEW):
+    if not directory.has(NEW_FILE):
         return False
-    return filecmp.cmp(f"/proc/self/fd/{part.fd}", directory.file(NEW), shallow=False)
+    return filecmp.cmp(f"/proc/self/fd/{part.fd}", directory.file(NEW_FILE), shallow=False)

@@ -12,7 +12,7 @@ from collections.abc import Iterable, Sequence
 from aide_compare.base.words import SIDES
 from aide_compare.changes.table import Row, Table
 from aide_compare.changes.weighing import DECODE, Scales
-from aide_compare.hosts.reported import SharedChange
+from aide_compare.hosts.report_values import SharedChange
 from aide_compare.lines.attributes import FORMS
 from aide_compare.lines.change import Fields
 from aide_compare.lines.reader import ENCODE, Outline

@@ -26,15 +26,15 @@ from aide_compare.base.options import (
 )
 from aide_compare.base.replacement import NewFile, replace
 from aide_compare.compare import work
-from aide_compare.compare.comparison import Comparison, Request
+from aide_compare.compare.comparison import Comparison, ComparisonInput
 from aide_compare.compare.configuration import NONE
 from aide_compare.compare.exclusions import Exclusions
 from aide_compare.compare.state import State
 from aide_compare.compare.unpack import Copy, copy_database
 from aide_compare.hosts.kept_lines import write_kept
-from aide_compare.hosts.store import BASELINE, ERRORS, LINES, MAX_BASELINE, NEW, HostDirectory
+from aide_compare.hosts.store import BASELINE, ERRORS, LINES, MAX_BASELINE, NEW_FILE, HostDirectory
 from aide_compare.hosts.store import check_name, write_cause
-from aide_compare.show.told import told_of
+from aide_compare.show.notes import told_of
 
 # Without --max-size a new database may always have so many bytes, and so many times those of the
 # baseline.
@@ -91,11 +91,11 @@ def run_comparison(directory: HostDirectory, request: HostsRequest, part: NewFil
     """The Comparison, with its lines in the part. What ended it is a Fault."""
     old = copy_database("old", directory.file(BASELINE), MAX_BASELINE)
     max_size = request.max_size or max(GROWTH * old.size, MIN_SIZE)
-    new = copy_database("new", directory.file(NEW), max_size)
+    new = copy_database("new", directory.file(NEW_FILE), max_size)
     comparison = work.compare(
-        Request(
+        ComparisonInput(
             old=directory.file(BASELINE),
-            new=directory.file(NEW),
+            new=directory.file(NEW_FILE),
             configuration=request.configuration or NONE,
             copies={"old": old, "new": new, **request.trusted},
             exclusions=request.exclusions,
@@ -108,9 +108,7 @@ def run_comparison(directory: HostDirectory, request: HostsRequest, part: NewFil
     return comparison
 
 
-def keep_findings(
-    directory: HostDirectory, request: HostsRequest, comparison: Comparison
-) -> None:
+def keep_findings(directory: HostDirectory, request: HostsRequest, comparison: Comparison) -> None:
     """Keeps the changes that are not silent. The comparison gets their standings."""
     with closing(NewFile(directory.fd)) as part:
         limit = min(request.max_kept, directory.room(request.jobs))
@@ -126,7 +124,7 @@ def age_fault(directory: HostDirectory, request: HostsRequest) -> str:
     cause = directory.fetch_cause()
     if cause:
         return f"it was not fetched the last time: {cause}"
-    age = time.time() - os.stat(NEW, dir_fd=directory.fd).st_mtime
+    age = time.time() - os.stat(NEW_FILE, dir_fd=directory.fd).st_mtime
     if not request.same_for or -MAX_AHEAD <= age <= request.same_for:
         return ""
     if age < 0:
@@ -147,7 +145,7 @@ def as_not_compared(directory: HostDirectory, state: State, why: str) -> State:
 
 def keep_comparison(directory: HostDirectory, request: HostsRequest) -> State:
     """Compares, keeps lines and errors, and returns the State."""
-    if not directory.has(NEW):
+    if not directory.has(NEW_FILE):
         cause = directory.fetch_cause() or "see aide-compare hosts compare --help"
         raise Fault(Status.DEVICE, f"nothing was fetched yet: {cause}")
     if not directory.has(BASELINE):

@@ -16,7 +16,7 @@ from aide_compare.hosts.hosts_text import (
     room_of,
     short_lines,
 )
-from aide_compare.hosts.reported import SharedChange
+from aide_compare.hosts.report_values import SharedChange
 from aide_compare.lines.change import Fields
 from aide_compare.show.digest import digest
 from aide_compare.show.page import BESIDE, MAX_PAGE, embedded, page as whole_page, row_of

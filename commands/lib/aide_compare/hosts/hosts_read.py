@@ -13,7 +13,7 @@ from aide_compare.base.files import BLOCK, open_regular
 from aide_compare.base.words import age_in_words
 from aide_compare.compare.state import State, read_state
 from aide_compare.hosts.kept_lines import KeptLines
-from aide_compare.hosts.reported import CUT, UNREADABLE, WHOLE, Host
+from aide_compare.hosts.report_values import CUT, UNREADABLE, WHOLE, Host
 from aide_compare.hosts.store import LINES, HostDirectory, check_name
 from aide_compare.lines.reader import Outline, Refused
 

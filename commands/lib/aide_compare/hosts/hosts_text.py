@@ -12,7 +12,7 @@ from aide_compare.base.escapes import guarded
 from aide_compare.base.words import SEVERITIES, counted
 from aide_compare.changes.table import Row, Table
 from aide_compare.hosts.hosts_read import words_of
-from aide_compare.hosts.reported import CUT, UNREADABLE, Host, SharedChange, Summary
+from aide_compare.hosts.report_values import CUT, UNREADABLE, Host, SharedChange, Summary
 from aide_compare.lines.attributes import word_of
 from aide_compare.lines.change import Change
 from aide_compare.mail.columns import command_lines

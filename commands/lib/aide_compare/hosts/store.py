@@ -20,7 +20,7 @@ MAX_MEMORY = 64 << 20
 MAX_BASELINE = 4 << 30
 MAX_CAUSE = 5000
 # The files of a host. The last one has the cause why the host could not be fetched the last time.
-NEW = "aide.db.new"
+NEW_FILE = "aide.db.new"
 BASELINE = "aide.db"
 LINES = "lines"
 ERRORS = "errors"

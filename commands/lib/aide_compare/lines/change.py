@@ -39,7 +39,7 @@ class Standing(Enum):
 
 
 # What the member `same_as` of a proved line means.
-BY_PROOF = {"old": Standing.SAME, "trusted": Standing.TRUSTED}
+STANDING_BY_PROOF = {"old": Standing.SAME, "trusted": Standing.TRUSTED}
 LEFT_OUT = "left_out"  # The member of a proved line with the number of the list's line.
 # What decides on what is reported: settings, AIDE's configuration, the units and the cron job of
 # the comparison. No trusted pair accounts for a change there, whatever happened on its machine.
@@ -107,7 +107,7 @@ def account_of(fields: Fields) -> Standing | None:
     if left_out_by(fields):
         return Standing.LEFT_OUT
     if "same_as" in fields:
-        return BY_PROOF[fields["same_as"]]
+        return STANDING_BY_PROOF[fields["same_as"]]
     return None
 
 

@@ -15,7 +15,7 @@ from aide_compare.base.ending import Fault, Status
 from aide_compare.base.files import BLOCK
 from aide_compare.base.paths import key_of_path
 from aide_compare.base.words import KINDS, SIDES, TRUSTED_SIDES, status_of_counts
-from aide_compare.lines.change import BY_PROOF, LEFT_OUT, Fields, Standing, account_of
+from aide_compare.lines.change import STANDING_BY_PROOF, LEFT_OUT, Fields, Standing, account_of
 from aide_compare.lines.change import change_of, left_out_by, silent_by
 
 FORMAT = 4
@@ -34,7 +34,7 @@ OUTLINE = re.compile(
     rb'(?:,"same_as":"(old|trusted)"|,"left_out":([1-9][0-9]{0,9}))?[,}]'
 )
 KINDS_BY_BYTES = {kind.encode(): kind for kind in KINDS}
-PROOFS = {proof.encode(): standing for proof, standing in BY_PROOF.items()}
+PROOFS = {proof.encode(): standing for proof, standing in STANDING_BY_PROOF.items()}
 # The counts of the end by the accounts of lines.
 COUNTED = {
     Standing.SAME: "same_as_old",

@@ -36,7 +36,7 @@ LOG_SECONDS = 5
 MAX_WAITING = 64
 MAX_BYTES = 64 << 20  # Of a mail that waits.
 
-Way = Callable[[bytes], object]
+Transport = Callable[[bytes], object]
 
 
 def find_mailer() -> str:
@@ -49,7 +49,7 @@ def find_mailer() -> str:
     raise Fault(Status.DEVICE, "cannot find sendmail, so no mail can be sent")
 
 
-def way_out(seconds: int) -> Way:
+def sendmail_transport(seconds: int) -> Transport:
     """The way by sendmail, which has to be there."""
     return partial(by_sendmail, find_mailer(), seconds)
 
@@ -90,7 +90,7 @@ def alert(text: str) -> bool:
     return False
 
 
-def refusal_of(way: Way, message: bytes) -> str | None:
+def refusal_of(way: Transport, message: bytes) -> str | None:
     """Why a message was not taken, or None. One such reason is that no process can be started, or
     no pipe made for it."""
     try:
@@ -101,7 +101,7 @@ def refusal_of(way: Way, message: bytes) -> str | None:
     return None
 
 
-def deliver(way: Way, message: bytes) -> None:
+def deliver(way: Transport, message: bytes) -> None:
     """Sends a message; a short one if it is refused, and says so; then a line in the system log,
     and a Fault."""
     why = refusal_of(way, message)
@@ -124,7 +124,7 @@ def waiting_in(directory: Directory) -> list[str]:
     return sorted(name for name in names if name.endswith(".mail") and not name.startswith("."))
 
 
-def way_in(path: str) -> Way:
+def queue_transport(path: str) -> Transport:
     """A way that keeps a message in this directory for the unit that sends it."""
     with open_directory(path, make=True) as directory:
         if len(waiting_in(directory)) >= MAX_WAITING:
@@ -150,7 +150,7 @@ def waiting_mail(directory: Directory, name: str) -> bytes:
         return file.read()
 
 
-def send_all(path: str, way: Way) -> None:
+def send_all(path: str, way: Transport) -> None:
     """Sends what waits, the oldest first. What cannot be sent stays, and is tried again the next
     time."""
     failed = None

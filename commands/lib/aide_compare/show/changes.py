@@ -9,7 +9,7 @@ from aide_compare.base.escapes import guarded, shown
 from aide_compare.base.words import date_of
 from aide_compare.lines.attributes import FORMS, STRENGTH, word_of
 from aide_compare.lines.change import Change, Value, change_of
-from aide_compare.lines.decoded import texts_of
+from aide_compare.lines.readable import texts_of
 from aide_compare.show.json_lines import marked_lines
 from aide_compare.show.outputs import all_lines
 

@@ -7,7 +7,7 @@ from aide_compare.base.files import file_kind
 from aide_compare.base.words import date_of, minute_of
 from aide_compare.lines.attributes import CONTENT, STRENGTH, word_of
 from aide_compare.lines.change import Change, Values
-from aide_compare.lines.decoded import TYPES, kinds_of
+from aide_compare.lines.readable import TYPES, kinds_of
 from aide_compare.lines.rights import ROOT
 
 TIMES_IN_ORDER = ("Mtime", "Ctime", "Atime")

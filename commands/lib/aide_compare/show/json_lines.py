@@ -9,7 +9,7 @@ from typing import TYPE_CHECKING
 
 from aide_compare.base.words import SIDES, TRUSTED_SIDES
 from aide_compare.lines.change import Fields, Standing, change_of
-from aide_compare.lines.decoded import texts_of
+from aide_compare.lines.readable import texts_of
 from aide_compare.lines.reader import ENCODE, HEX, Reader
 
 if TYPE_CHECKING:
@@ -69,9 +69,7 @@ def line_of(fields: Fields) -> bytes:
     return ENCODE(fields).encode() + b"\n"
 
 
-def added_lines(
-    reader: Reader, comparison: Comparison, judged: Judged | None
-) -> Iterator[bytes]:
+def added_lines(reader: Reader, comparison: Comparison, judged: Judged | None) -> Iterator[bytes]:
     """Yields the lines of a comparison with what is added."""
     yield line_of(summary_of(reader.summary, comparison))
     for line, marks in marked_lines(reader, judged):

@@ -26,7 +26,7 @@ from aide_compare.lines.change import (
     Values,
     change_of,
 )
-from aide_compare.lines.decoded import texts_of
+from aide_compare.lines.readable import texts_of
 from aide_compare.lines.reader import ENCODE, Reader
 from aide_compare.show.json_lines import marked_lines
 from aide_compare.show.brief import brief_of

@@ -74,5 +74,5 @@ def told_of(comparison: Comparison, quiet: bool = False, verbose: bool = False) 
 
 
 def _ours(texts: Iterable[str]) -> list[str]:
-    """Texts as lines of the command itself."""
+    """ConfigurationTexts as lines of the command itself."""
     return [f"aide-compare: {guarded(text)}" for text in texts]
