@@ -231,21 +231,32 @@ class ArchiveTest(ArchiveCase):
         place.expect(answer, "open", KEPT + names[0])
 
     def test_links(self) -> None:
-        """A new directory has the links that the subdirectories of packages make, and any other one
-        those that it had. A file system that does not count them has one link for each."""
+        """A directory has the links that the subdirectories of packages make, and that are there
+        now. A file system that does not count them has one link for each."""
         place = self.place
         place.package(Built("came", "2").file(b"/usr/share/came/deep/file", TWO))
         place.came("came", "2")
-        for path, links in ((b"/usr/share", 7), (b"/usr/share/tool", 3), (b"/usr/bin", 2)):
-            place.old.directory(path, lcount=links)
-        place.new.directory(b"/usr/share/came", lcount=3).directory(b"/usr/share/came/deep")
+        for path, old, new in (
+            (b"/usr/share", 7, 7),
+            (b"/usr/share/tool", 3, 3),
+            (b"/usr/share/tool/old", 2, None),
+            (b"/usr/share/tool/new", None, 2),
+            (b"/usr/share/came", None, 3),
+            (b"/usr/share/came/deep", None, 2),
+            (b"/usr/bin", 2, 3),
+        ):
+            for night, links in ((place.old, old), (place.new, new)):
+                if links is not None:
+                    night.directory(path, lcount=links)
         place.sign()
-        wanted = {b"/usr/share": 7, b"/usr/share/tool": 3, b"/usr/share/tool/new": 2}
+        wanted = {b"/usr/share": 8, b"/usr/share/tool": 3, b"/usr/share/tool/new": 2}
         wanted.update({b"/usr/share/came": 3, b"/usr/share/came/deep": 2, b"/usr/bin": 2})
         self.assertEqual(self.links_of(*wanted), wanted)
-        for path in (b"/usr/bin", b"/usr/share", b"/usr/share/tool"):
-            place.old.directory(path, lcount=1)
-        self.assertEqual(self.links_of(b"/usr/share/came"), {b"/usr/share/came": 1})
+        place.old.directory(b"/usr/share", lcount=1)
+        self.assertEqual(self.links_of(b"/usr/share"), {b"/usr/share": 1})
+        # What a package has, and is not there, explains no other directory.
+        del place.new.entries[b"/usr/share/tool/new"]
+        self.assertEqual(self.links_of(b"/usr/share/tool"), {b"/usr/share/tool": 2})
 
     def links_of(self, *paths: bytes) -> Dict[bytes, int]:
         """How many links directories have in what was made."""

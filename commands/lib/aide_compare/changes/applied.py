@@ -10,7 +10,7 @@ import io
 import os
 import tarfile
 from collections import Counter
-from collections.abc import Collection, Iterator, Mapping, Sequence
+from collections.abc import Collection, Iterator, Sequence
 from heapq import merge
 from itertools import groupby
 from typing import IO
@@ -22,13 +22,13 @@ from aide_compare.base.files import BLOCK, nameless
 from aide_compare.base.paths import escaped, key_of_path, path_of, unescaped
 from aide_compare.changes.signed import Signed, file_name, open_package, tar_of
 from aide_compare.changes.usr import MERGED, usr_of
+from aide_compare.changes.weighing import directory_of
 from aide_compare.compare.kept_open import NEW_SIDE, OLD_SIDE, EntryReader, SidedEntry, key_of_entry
 from aide_compare.compare.unpack import Copy
 from aide_compare.lines.attributes import DIGEST_COLUMNS
 from aide_compare.lines.rights import is_access_list
 
 CONFIGURATION = b"/etc/"
-SLASH = key_of_path(b"/")
 INFO = "/var/lib/dpkg/info/"
 KEPT = "/var/cache/apt/archives/"  # Where apt keeps the files of packages.
 STRONG = ("sha256", "sha512")
@@ -183,16 +183,25 @@ def with_content(entry: FieldsByColumn, new: FieldsByColumn) -> FieldsByColumn:
     return changed
 
 
+def with_links(entry: FieldsByColumn, rise: int) -> FieldsByColumn:
+    """A directory with another number of subdirectories. A file system that does not count them has
+    one link for each."""
+    count = number_of(entry.get("lcount", ABSENT))
+    if count < 2:
+        return entry
+    return {**entry, "lcount": b"%d" % (count + rise)}
+
+
 def new_entry(
-    path: bytes, likely: FieldsByColumn, new: FieldsByColumn, subdirectories: int
+    path: bytes, likely: FieldsByColumn, new: FieldsByColumn, rise: int
 ) -> FieldsByColumn:
     """The entry of a new file: measured as another one with its mode, and with no right beyond
-    that. A file system that does not count subdirectories has one link for each directory."""
+    that."""
     more = dict(name=escaped(path), capabilities=ABSENT, xattrs=ABSENT)
     more.update(uid=new["uid"], gid=new["gid"])
     count = number_of(likely.get("lcount", ABSENT))
     if count > 1:
-        more["lcount"] = b"%d" % (2 + subdirectories if is_directory(new) else 1)
+        more["lcount"] = b"%d" % (2 + rise if is_directory(new) else 1)
     return {name: more.get(name, field) for name, field in with_content(likely, new).items()}
 
 
@@ -209,15 +218,26 @@ def is_likely(entry: FieldsByColumn) -> bool:
     return (has_digest or not is_file) and not has_access_list(entry)
 
 
-def subdirectories_in(files: Mapping[bytes, FieldsByColumn]) -> Counter[bytes]:
-    """How many subdirectories the directories of packages have there."""
-    keys = (key for key, fields in files.items() if is_directory(fields))
-    return Counter(key[: key.rindex(SLASH)] for key in keys)
+def directories_in(copy: Copy) -> set[bytes]:
+    """The keys of the directories in a database."""
+    reader = EntryReader(copy)
+    entries = reader.entries(OLD_SIDE)
+    return {key for key, _, line in entries if is_directory(reader.fields(line))}
 
 
-def upgraded(old: Copy, upgrades: Upgrades) -> int:
+def rises_of(old: Copy, new: Copy, upgrades: Upgrades) -> Counter[bytes]:
+    """By how much the links of directories rise: by the subdirectories of packages that are there
+    now, less those that went, which are reported themselves."""
+    before, now = directories_in(old), directories_in(new)
+    came = (key for key in now - before if is_directory(upgrades.files.get(key, {})))
+    rises = Counter(map(directory_of, came))
+    rises.subtract(map(directory_of, before - now))
+    return rises
+
+
+def upgraded(old: Copy, new: Copy, upgrades: Upgrades) -> int:
     """A private file with the database that the old one would be after these upgrades."""
-    subdirectories = subdirectories_in(upgrades.files)
+    rises = rises_of(old, new, upgrades)
     target = nameless()
     file = open(os.dup(target), "wb", BLOCK)
     reader = EntryReader(old, file.write)
@@ -229,10 +249,13 @@ def upgraded(old: Copy, upgrades: Upgrades) -> int:
         if entry:
             if is_likely(entry):
                 last[entry["perm"]] = entry
-            if key in upgrades.replaced and type_digits(fields) == type_digits(entry):
+            has_type = type_digits(fields) == type_digits(entry)
+            if has_type and is_directory(entry):
+                entry = with_links(entry, rises[key])
+            elif has_type and key in upgrades.replaced:
                 entry = with_content(entry, fields)
         elif fields.get("perm") in last and may_come(fields):
-            entry = new_entry(path_of(key), last[fields["perm"]], fields, subdirectories[key])
+            entry = new_entry(path_of(key), last[fields["perm"]], fields, rises[key])
         if entry and key not in upgrades.gone:
             file.write(b" ".join(entry.values()) + b"\n")
     file.write(reader.end)

@@ -213,7 +213,7 @@ def main(arguments: Sequence[str]) -> int:
     new = copy_database("new", request.databases[1], request.max_size)
     refuse_unsound(new, old)
     upgrades = upgrades_of(old, new, request)
-    made = upgraded(old, upgrades)
+    made = upgraded(old, new, upgrades)
     if request.output:
         replace_by_copy(request.output, made, PRIVATE, "the database")
     if not request.is_quiet:
