@@ -228,7 +228,7 @@ class NotesTest(ModuleTest):
             ("two", "it is a FIFO"),
             ("three", "is no note of a canary"),
         ):
-            (line,) = canary.notes_of(self.path(name), []).lines
+            (line,), _ = canary.notes_of(self.path(name), [])
             self.assertIn(wanted, line)
         for _ in range(2):
             canary.keep_run(store, None)

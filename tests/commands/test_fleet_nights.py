@@ -5,6 +5,7 @@ from __future__ import annotations
 import hashlib
 import os
 import re
+import time
 from typing import Any, Dict, Optional
 
 from tests.commands.made_up import Night, base64_of, time_of
@@ -18,6 +19,7 @@ NAMES = tuple(f"www{number}" for number in range(1, 9))
 LATE = ("www4", "www5")
 EVIL = "www3"
 MARK = b"/usr/bin/mark"
+DAY = 86400
 Files = Dict[bytes, bytes]
 
 
@@ -87,20 +89,23 @@ class Fleet(Hosts):
 
 
 class FleetNightsTest(CommandTest):
-    def test_upgrade(self) -> None:
-        """Night 1: the canary is named, and who has a mark; all others are accepted. Night 2: hosts
-        that are upgraded then are quiet, and the canary is accepted. Night 3: nobody is named."""
+    def nights(self, silent_first: bool) -> None:
         fleet = Fleet(self)
         in_time = tuple(host for host in NAMES if host not in LATE)
         mark = {EVIL: {MARK: b"x"}}
         fleet.send(in_time, mark)
         self.assertEqual(fleet.night(), {CANARY: 4, EVIL: 1}, "the night of the upgrade")
+        if not silent_first:
+            fleet.accept(CANARY)
         self.assertEqual(fleet.accept_silent(), {*NAMES} - {CANARY, EVIL})
+        if silent_first:
+            fleet.accept(CANARY)
         fleet.send(NAMES, mark)
-        self.assertEqual(fleet.night(), {CANARY: 4, EVIL: 1}, "those that lag are quiet")
+        self.assertEqual(fleet.night(), {EVIL: 1}, "those that lag are quiet")
+        first = fleet.report().output_text.split("\n")[0]
+        self.assertIn("and was accepted, is silent", first)
         self.assertIn("www4", fleet.accept_silent())
-        for host in (CANARY, EVIL):
-            fleet.accept(host)
+        fleet.accept(EVIL)
         fleet.send(NAMES, mark)
         self.assertEqual(fleet.night(), {}, "an idle night")
         hosts = self.path("hosts")
@@ -111,16 +116,48 @@ class FleetNightsTest(CommandTest):
             (without.output_text, without.error_text), ("", ""), "nor without a canary"
         )
 
-    def test_late(self) -> None:
-        """A canary that was accepted accounts for nothing: hosts that get the upgrade later are
-        named."""
+    def test_upgrade(self) -> None:
+        """Night 1: the canary is named, and who has a mark. The canary is accepted. Night 2: hosts
+        that are upgraded then are quiet. Night 3: nobody is named."""
+        self.nights(silent_first=True)
+
+    def test_canary_first(self) -> None:
+        """The same if the canary is accepted before the others."""
+        self.nights(silent_first=False)
+
+    def late(self) -> Fleet:
+        """The second night of an upgrade: the canary was accepted, and some hosts got it late."""
         fleet = Fleet(self)
         fleet.send(tuple(host for host in NAMES if host not in LATE))
         self.assertEqual(fleet.night(), {CANARY: 4})
         fleet.accept_silent()
         fleet.accept(CANARY)
         fleet.send(NAMES)
-        self.assertEqual(fleet.night(), {host: 4 for host in LATE})
+        self.assertEqual(fleet.night(), {})
+        return fleet
+
+    def test_late(self) -> None:
+        """The pair before the canary was accepted serves for a week, for the same list of what is
+        left out, for no other database, and only until something new differs on the canary."""
+        fleet = self.late()
+        loud = {host: 4 for host in LATE}
+        listed = self.path(f"store/hosts/{CANARY}/listed")
+        os.utime(listed, (time.time() - 8 * DAY,) * 2)
+        self.assertEqual(fleet.night(), loud, "a week later")
+        os.utime(listed)
+        self.assertEqual(fleet.night(), {})
+        self.write("etc/without", "/var/log/**\n/srv/**\n")
+        self.assertEqual(fleet.night(), loud, "another list")
+        self.write("etc/without", "/var/log/**\n")
+        previous = f"store/hosts/{CANARY}/aide.db.previous"
+        text = self.read(previous)
+        self.write(previous, text.replace(b"/usr/bin/a ", b"/usr/bin/A "), 0o600)
+        self.assertEqual(fleet.night(), loud, "another database")
+        self.write(previous, text, 0o600)
+        self.write(listed, "[1]")
+        self.assertEqual(fleet.night(), loud, "no pair")
+        fleet.send(NAMES, {CANARY: {MARK: b"x"}})
+        self.assertEqual(fleet.night(), {CANARY: 1, **loud}, "something new")
 
 
 def program(path: str, sha256: bytes = b"", sha512: bytes = b"", owner: int = 0) -> str:

@@ -6,7 +6,6 @@ import os
 from collections.abc import Iterable, Iterator, Sequence
 from functools import partial
 
-from aide_compare.base import progress
 from aide_compare.base.ending import Fault, Status, write_blocks
 from aide_compare.base.options import (
     ATTACH_PAGE,
@@ -104,16 +103,16 @@ class HostsReport:
             hosts.append(host)
         self.fleet.gather()
         self.worst = max(host.status for host in hosts)
-        notes = notes_of(request.store, hosts)
+        notes, is_unlisted = notes_of(request.store, hosts)
         # Silent differences are no reason for a mail.
         has_alarm = any(host.differs or host.status > 7 for host in hosts)
-        self.is_alarm = has_alarm or notes.are_alarms
+        self.is_alarm = has_alarm or is_unlisted
         summary = Summary(
             counts=HostCounts.of([(host.status, host.is_silent) for host in hosts]),
             cut=sum(host.report == CUT for host in hosts),
             not_listed=sum(host.report == UNREADABLE for host in hosts),
             changes=len(self.fleet.table),
-            canary=notes.lines,
+            canary=notes,
         )
         shared = partial(self.fleet.shared, max_names=MAX_NAMES)
         self.report = Report(summary, hosts, self.fleet.table, shared, command_words(request))
@@ -171,21 +170,16 @@ def request_of(arguments: Sequence[str]) -> ReportRequest:
     request = read(ReportRequest, arguments, NAME, DESCRIPTION, EPILOG, usage)
     if request.format and request.address:
         raise Fault(Status.USAGE, "--format does not go with --to", f"try: {NAME} --help")
-    of_mail = {
-        ATTACH_PAGE.name: request.has_page,
-        WEEKLY.name: request.weekly,
-        MAIL_TIME.name: request.mail_seconds != MAIL_TIME.default,
-    }
-    for name, is_given in of_mail.items():
-        if is_given and not request.address:
-            raise Fault(Status.USAGE, f"{name} goes with --to", f"try: {NAME} --help")
+    is_of_mail = request.has_page or request.weekly or request.mail_seconds != MAIL_TIME.default
+    if is_of_mail and not request.address:
+        text = "--attach-page, --weekly and --mail-time go with --to"
+        raise Fault(Status.USAGE, text, f"try: {NAME} --help")
     return request
 
 
 def main(arguments: Sequence[str]) -> int:
     request = request_of(arguments)
     report = HostsReport(hosts_of(request.hosts_file), request)
-    progress.note_step("the hosts are read")
     if request.address:
         report.send(request, request.address)
     elif report.is_alarm or not request.is_quiet:

@@ -22,6 +22,7 @@ MAX_CAUSE = 5000
 # The files of a host. The last one has the cause why the host could not be fetched the last time.
 NEW_FILE = "aide.db.new"
 BASELINE = "aide.db"
+PREVIOUS = "aide.db.previous"
 LINES = "lines"
 ERRORS = "errors"
 CAUSE = "not-fetched"
