@@ -62,15 +62,13 @@ class FrontTest(CommandTest):
             self.answered(0, wanted, b"", TOOL, *words)
 
     def test_quiet(self) -> None:
-        """-q leaves out what is told when all is well, and -v tells the steps."""
+        """-q leaves out what is told when all is well."""
         self.write("base.db", OLD)
         self.answered(
             0, b"", b"", TOOL, "accept", "-q", "--sha256", sha256(NEW), "new.db", "base.db"
         )
         self.assertEqual(self.read("base.db"), NEW, "it was accepted")
         self.answered(0, OLD, b"", TOOL, "sort", "-q", "old.db")
-        told = b"aide-compare sort: the lines are in order: "
-        self.answered(0, OLD, told, TOOL, "sort", "-v", "old.db")
         version = self.answered(0, b"aide-compare ", b"", TOOL, "version", "-q").output
         self.assertEqual(version.count(b"\n"), 1, version)
         status = ("status", "--state", "state")

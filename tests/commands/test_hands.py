@@ -195,7 +195,7 @@ class HandsTest(CommandTest):
         self.assertEqual(self.state("his/state")["open"], "4")
         self.assertEqual(os.stat(self.path("his/state")).st_uid, NOBODY, "the user's state")
         words = ("--state", "mine/state", *words[2:])
-        self.answered(18, b"", b"--user root keeps root's", TOOL, *words)
+        self.answered(18, b"", b"cannot write the state file mine/state", TOOL, *words)
         self.answered(7, None, counts, TOOL, "--user", "root", "--report", *words)
         self.assertEqual(self.users(), {"0"})
         names = (self.path("his/o.db"), self.path("mine/n.db"))

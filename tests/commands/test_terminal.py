@@ -57,10 +57,3 @@ class TerminalTest(CommandTest):
         self.assertEqual((status, b"\033" in text), (7, False), text)
         self.assertIn(b"h\\033[2J.db", text)
         self.assertEqual(text.count(b"Open, severity high:\n"), 1, text)
-
-    def test_verbose(self) -> None:
-        answer = self.call(TOOL, "-v", *PAIR)
-        read = b"the old database is read, %d bytes: " % len(self.read("o.db"))
-        steps = [read, b"the program has run: ", b"the changes are judged: "]
-        self.expect("each step", answer, 7, standings.BRIEF.encode(), steps)
-        self.assertNotIn(b"database is read", self.call(TOOL, *PAIR).errors, "without -v")

@@ -22,7 +22,7 @@ SENT: dict[str, tuple[str | bytes, int, str]] = {
     "forged": ("x\n", 24, "no @@begin_db"),
     "cut": (gzip.compress(os.urandom(2000) + NEW.encode())[:-100], 18, "cut short|damaged"),
     "down": (OLD, 18, "No route to host"),
-    "loud": (OLD, 18, "more than 65536 bytes of errors"),
+    "loud": (OLD, 18, "sent errors of more than 65536 bytes"),
     "silent": (OLD, 18, "sent nothing"),
     "broken": (OLD, 18, "ssh ended with 255"),
     "first": (OLD, 18, "no baseline yet"),

@@ -7,7 +7,7 @@ from unittest import mock
 
 from tests.commands.units.calls import ModuleTest
 
-from aide_compare.base import parser, progress
+from aide_compare.base import parser
 from aide_compare.base.options import COMPARISON_DEFAULTS, MAIL_DEFAULTS
 from aide_compare.base.parser import defaults_for
 from aide_compare.commands.compare import CompareRequest
@@ -45,11 +45,9 @@ class MailRequestTest(ModuleTest):
         }
         for words, wanted in rows.items():
             self.asks(words, **wanted)
-        with mock.patch.object(progress, "tell_steps") as tell:
-            comparison = self.asks(
-                "--user u --state s -v -- --weekly n", user="u", state="s", is_verbose=True
-            )
-        tell.assert_any_call(True)
+        comparison = self.asks(
+            "--user u --state s -v -- --weekly n", user="u", state="s", is_verbose=True
+        )
         got = (comparison.databases, comparison.user, comparison.state)
         self.assertEqual(got, (["--weekly", "n"], "u", "s"))
 

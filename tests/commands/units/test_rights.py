@@ -121,7 +121,6 @@ class OwnersTest(PlacesTest):
             os.chdir(self.path("his"))
             self.gives(OTHER, rights.owner_of, "x")
             self.gives(None, rights.owner_of, "-")
-        self.assertIn("of root, whose", rights.rights_hint(0))
 
     def as_owner(self) -> None:
         """Root becomes the one owner of all these files; of several it wants to know which."""
@@ -130,9 +129,10 @@ class OwnersTest(PlacesTest):
         his = (self.path("his/x"), self.path("own/x"), "-")
 
         def become_and_look() -> bytes:
-            user = rights.become_owner(*his)
-            return repr((user, os.getresuid(), rights.become_owner(*his))).encode()
+            for _ in range(2):
+                rights.become_owner(*his)
+            return repr(os.getresuid()).encode()
 
-        self.gives(repr((OTHER, (OTHER,) * 3, None)).encode(), in_child, become_and_look)
+        self.gives(repr((OTHER,) * 3).encode(), in_child, become_and_look)
         both = (*his, self.path("hers/x"))
         self.fails(15, "choose one by --user", rights.become_owner, *both)

@@ -55,6 +55,12 @@ def is_missing(path: str) -> bool:
     return False
 
 
+def is_name(shown_path: str) -> bool:
+    """Whether a path that was shown is the name of a file: an escaped name is not the name, and a
+    descriptor was that of another process."""
+    return "\\" not in shown_path and given_descriptor(shown_path) is None
+
+
 def file_kind(mode: int) -> str:
     return "a " + FILE_KINDS.get(stat.S_IFMT(mode), "device")
 

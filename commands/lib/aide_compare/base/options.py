@@ -74,7 +74,7 @@ def option(name: str, help: str, metavar: str = "", **more: Any) -> Any:
 
 
 QUIET = Option("--quiet", "print only why it failed", letter="-q")
-VERBOSE = Option("--verbose", "print which step is done, and how long it took", letter="-v")
+VERBOSE = Option("--verbose", "print also what each line of a list leaves out", letter="-v")
 Asks = TypeVar("Asks", bound="Asked")
 
 

@@ -15,7 +15,6 @@ from contextlib import suppress
 from typing import Any, NoReturn
 
 from aide_compare import VERSION
-from aide_compare.base import progress
 from aide_compare.base.ending import Done, Fault, Status, failing, write_all
 from aide_compare.base.escapes import shown
 from aide_compare.base.files import lines_of
@@ -148,9 +147,7 @@ class Parser(argparse.ArgumentParser):
         are operands only."""
         cut = end_of_options(arguments)
         operands = [OPERAND + word for word in arguments[cut + 1 :]]
-        given = vars(self.parse_intermixed_args([*arguments[:cut], *operands]))
-        progress.tell_steps(given.get("is_verbose", False))
-        return given
+        return vars(self.parse_intermixed_args([*arguments[:cut], *operands]))
 
     def _print_message(self, message: str, file: object = None) -> None:
         write_all(1, message.encode())

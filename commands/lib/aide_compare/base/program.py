@@ -7,7 +7,6 @@ from collections.abc import Mapping, Sequence
 from contextlib import suppress
 from typing import NamedTuple
 
-from aide_compare.base import progress
 from aide_compare.base.ending import Fault, Status, reason
 from aide_compare.base.escapes import shown
 from aide_compare.base.processes import NOT_STARTED, Taker, run
@@ -132,7 +131,6 @@ def run_program(
         status = run([program, *words], takers, descriptors, environment)
     except OSError as error:
         raise Fault(Status.DEVICE, f"cannot run {shown(program)}: {reason(error)}")
-    progress.note_step("the program has run")
     if status < 0:
         raise Fault(Status.DEVICE, f"{shown(program)} was ended by signal {-status}")
     if status == NOT_STARTED:

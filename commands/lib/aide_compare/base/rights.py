@@ -86,24 +86,14 @@ def owner_of(path: str) -> int | None:
     return None
 
 
-def become_owner(*paths: str) -> int | None:
+def become_owner(*paths: str) -> None:
     """Root becomes for good the user in whose directories these files are, so that what this user
-    puts there is read and written with no more than the user's rights. Returns the user; None if
-    this process stays who it is."""
+    puts there is read and written with no more than the user's rights."""
     if os.geteuid() != 0:
-        return None
+        return
     users = {user for user in map(owner_of, paths) if user is not None}
-    if not users:
-        return None
     if len(users) > 1:
         names = " and ".join(map(name_of, sorted(users)))
         raise Fault(Status.USAGE, f"the files are in directories of {names}: choose one by --user")
-    user = min(users)
-    become(entry_of(user))
-    return user
-
-
-def rights_hint(user: int) -> str:
-    """Why a file may be closed to a command that root has called."""
-    whose = f"this was done with the privileges of {name_of(user)}, whose directory the file is in"
-    return f"{whose}; --user root keeps root's"
+    for user in users:
+        become(entry_of(user))

@@ -7,7 +7,7 @@ import time
 from collections.abc import Callable
 
 from aide_compare.base.ending import Fault, Status, failing
-from aide_compare.base.processes import run
+from aide_compare.base.processes import bounded, run
 from aide_compare.changes import packages
 from aide_compare.changes.packages import (
     Dpkg,
@@ -52,14 +52,14 @@ class Rpm:
         environment = {"LC_ALL": "C", "PATH": "/usr/bin:/bin", "HOME": "/"}
         end = time.monotonic() + MAX_SECONDS
         with failing("cannot run rpm"):
-            status = run(words, {1: self._take}, environment=environment, deadline=end)
+            status = run(
+                words,
+                {1: bounded(self.text, MAX_ALL, "rpm has said")},
+                environment=environment,
+                deadline=end,
+            )
         if status != 0:
             raise Fault(Status.DEVICE, f"rpm did not say which packages there are: {status}")
-
-    def _take(self, block: bytes) -> None:
-        self.text += block
-        if len(self.text) > MAX_ALL:
-            raise Fault(Status.DEVICE, f"rpm has said more than {MAX_ALL} bytes")
 
     def members(self, wanted: Wanted, usr: Callable[[bytes], bytes]) -> Members:
         """What rpm says of the wanted paths. Of a file that it did not write itself it says the

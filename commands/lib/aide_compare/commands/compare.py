@@ -30,7 +30,7 @@ from aide_compare.base.options import (
 )
 from aide_compare.base.parser import Given, Parser, filled
 from aide_compare.base.replacement import ANYBODY_READS
-from aide_compare.base.rights import become_owner, give_up, rights_hint
+from aide_compare.base.rights import become_owner, give_up
 from aide_compare.base.words import date_of, words_of_side
 from aide_compare.commands.defaults import ADVICE, comparison_defaults, exclusions_of
 from aide_compare.compare.comparison import Comparison, ComparisonInput
@@ -240,42 +240,31 @@ class ComparisonJob:
             opened = open_databases(comparison)
         except FAILURES as error:
             comparison.fail(error)
-        user = None
-        if not self.options.user:
-            user = self._become_owner(self.request.old)
-        self._open_outputs(user)
+        self._open_outputs()
         if not comparison.has_failed:
             compare_opened(comparison, opened)
-            if user is not None:
-                comparison.explain(rights_hint(user))
         self._make(comparison)
         self._put(comparison)
         return comparison
-
-    def _become_owner(self, baseline: str) -> int | None:
-        try:
-            return become_owner(*filter(None, (baseline, *self._files())))
-        except Fault as fault:
-            keep_failure(self.options.state, fault)
-            raise
 
     def _files(self) -> list[str]:
         """The paths of the outputs that are files."""
         paths = [path for path in self.options.outputs.values() if descriptor_of(path) is None]
         return [*paths, self.options.state] if self.options.state else paths
 
-    def _open_outputs(self, user: int | None) -> None:
-        """Opens the places of the outputs, as this user may write them."""
+    def _open_outputs(self) -> None:
+        """Opens the places of the outputs, as the user in whose directories they and the baseline
+        are may write them."""
         state_file = None
         try:
+            if not self.options.user:
+                become_owner(*filter(None, (self.request.old, *self._files())))
             if self.options.state:
                 state_file = file_output(self.options.state, "the state file", ANYBODY_READS)
             rows = [*self.before, *output_rows(self.options)]
         except Fault as fault:
-            if user is not None:
-                fault = Fault(fault.status, fault.text, *fault.more, rights_hint(user))
             keep_failure(self.options.state, fault)
-            raise fault
+            raise
         if state_file:
             rows.append(Row(state_file, state_bytes, of_failure=True))
         self.rows = [*rows, *self.after]

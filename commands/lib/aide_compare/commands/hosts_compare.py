@@ -7,8 +7,12 @@ from aide_compare.base.ending import Fault, Status, fault_of, tell
 from aide_compare.base.escapes import guarded
 from aide_compare.base.options import EXCLUDE, EXCLUDE_FROM
 from aide_compare.base.parser import defaults_for, read
+from aide_compare.base.files import in_memory
 from aide_compare.commands.defaults import exclusions_of
-from aide_compare.compare.asking import errors_of_list
+from aide_compare.compare.comparison import ComparisonInput
+from aide_compare.compare.exclusions import Exclusions
+from aide_compare.compare.unpack import Copy
+from aide_compare.compare.work import compare
 from aide_compare.hosts.canary import Run, keep_run, trusted_pair
 from aide_compare.hosts.host_comparison import MAX_JUDGED, MAX_KEPT, HostsRequest
 from aide_compare.hosts.hosts_file import hosts_of
@@ -16,6 +20,7 @@ from aide_compare.hosts.report_values import HostCounts
 from aide_compare.hosts.workers import HostResult, results, without_name
 
 NAME = "aide-compare hosts compare"
+EMPTY = b"@@begin_db\n@@db_spec name\n@@end_db\n"
 DESCRIPTION = """\
 Fetches and compares the databases of the hosts of HOSTS-FILE, one name a line. Prints a line for
 each host as it ends: its name, its status and the counts. Then a summary."""
@@ -65,15 +70,23 @@ def compare_all(request: HostsRequest, hosts: Sequence[str]) -> int:
     return worst
 
 
+def refuse_faulty(exclusions: Exclusions) -> None:
+    """A Fault if the program refuses the list: once, and not for each host."""
+    empty = Copy(in_memory(EMPTY), "", None)
+    copies = {"old": empty, "new": empty}
+    comparison = compare(ComparisonInput("", "", copies=copies, exclusions=exclusions))
+    if comparison.fault:
+        raise comparison.fault
+
+
 def request_of(arguments: Sequence[str]) -> HostsRequest:
     # Of the defaults only what is left out: a trusted pair there is one of this machine.
     defaults = defaults_for((EXCLUDE_FROM, EXCLUDE), arguments)
     usage = f"{NAME} [OPTIONS] [HOSTS-FILE]"
     request = read(HostsRequest, arguments, NAME, DESCRIPTION, EPILOG, usage, defaults)
     exclusions = exclusions_of(request.exclude_from, request.exclude, not request.no_defaults)
-    fault = exclusions.fault_in(errors_of_list(exclusions.text)) if exclusions else None
-    if fault:
-        raise fault  # Once, and not for each host.
+    if exclusions:
+        refuse_faulty(exclusions)
     return request.but(exclusions=exclusions, trusted={}, max_kept=MAX_KEPT)
 
 

@@ -4,7 +4,6 @@ from __future__ import annotations
 import os
 from collections.abc import Iterator, Sequence
 
-from aide_compare.base import progress
 from aide_compare.base.database import MAX_LINE, Kind, Layout
 from aide_compare.base.ending import Fault, Status, say, write_blocks
 from aide_compare.base.escapes import shown
@@ -117,7 +116,6 @@ def sort(request: SortRequest) -> int:
     copy = copy_database("given", path, request.max_size)
     rows.do_all("insert into lines values (?, ?, ?)", lines_of(copy))
     write_blocks(1, (line for (line,) in rows.ask(IN_ORDER)))
-    progress.note_step("the lines are in order")
     if not request.is_quiet:
         count, breaks = next(rows.ask(BREAKS))
         say(f"out of order: {breaks} of {count} lines")

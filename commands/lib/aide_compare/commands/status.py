@@ -7,7 +7,7 @@ from collections.abc import Sequence
 
 from aide_compare.base.ending import Done, Fault, Status, tell, why_of, write_all
 from aide_compare.base.escapes import guarded, shown
-from aide_compare.base.files import given_descriptor
+from aide_compare.base.files import is_name
 from aide_compare.base.replacement import replace
 from aide_compare.base.rights import become_owner
 from aide_compare.base.kinds import AlarmLimit
@@ -97,11 +97,9 @@ def database_line(side: str, name: str, written: int | None) -> str:
 
 
 def leads_to_file(name: str) -> bool:
-    """Whether the name of a database means a file here too. An escaped name is not the name, a
-    descriptor was that of another process, and a relative name may be one of another directory."""
-    if "\\" in name or given_descriptor(name) is not None:
-        return False
-    return os.path.isabs(name) or os.path.lexists(name)
+    """Whether the name of a database means a file here too. A relative name may be one of another
+    directory."""
+    return is_name(name) and (os.path.isabs(name) or os.path.lexists(name))
 
 
 def command_lines(state: State) -> list[str]:

@@ -94,15 +94,6 @@ def ask_for_lines(
     return ask_for_changes(program, texts, databases, take, sorted(forced), without)
 
 
-def errors_of_list(text: bytes) -> bytes:
-    """What the program says of a list, which it reads before any database: nothing if the list has
-    no fault."""
-    take = Drain(0, bytearray().extend).take
-    texts = ConfigurationTexts(b"", b"")
-    answer = ask_for_changes(find_installed(LINES), texts, {}, take, without=text)
-    return answer.errors if answer.status == Status.CONFIGURATION else b""
-
-
 def settings_of(texts: ConfigurationTexts) -> Settings | None:
     """What the program says of texts, without any database; None if it refuses them."""
     written = bytearray()

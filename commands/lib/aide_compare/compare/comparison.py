@@ -6,7 +6,7 @@ from collections.abc import Mapping, Sequence
 from types import MappingProxyType
 from typing import TYPE_CHECKING, Any, NamedTuple
 
-from aide_compare.base.ending import Fault, ReaderGone, Status, fault_of
+from aide_compare.base.ending import Fault, Status, fault_of
 from aide_compare.base.escapes import shown, shown_lines
 from aide_compare.base.options import MAX_DATABASE_BYTES, MAX_REPORT_BYTES
 from aide_compare.base.program import Answer
@@ -105,12 +105,6 @@ class Comparison:
         else:
             self.fault = fault_of(error)
             self.status = int(self.fault.status)
-
-    def explain(self, hint: str) -> None:
-        """Adds a hint to the fault that has ended it, if one has."""
-        fault = self.fault
-        if fault is not None and not isinstance(fault, ReaderGone):
-            self.fault = Fault(fault.status, fault.text, *fault.more, hint)
 
     def state(self) -> State:
         """The State that says it."""

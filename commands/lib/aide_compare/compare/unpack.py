@@ -9,7 +9,6 @@ import zlib
 from collections.abc import Iterable, Iterator
 from itertools import chain
 
-from aide_compare.base import progress
 from aide_compare.base.ending import Fault, Status, failing, write_all
 from aide_compare.base.escapes import shown
 from aide_compare.base.files import (
@@ -145,9 +144,7 @@ def copy_opened(opened: Opened, limit: int) -> Copy:
         except BaseException:
             os.close(target)
             raise
-    copy = Copy(target, opened.path, opened.written)
-    progress.note_step(f"the {words_of_side(opened.side)} database is read, {copy.size} bytes")
-    return copy
+    return Copy(target, opened.path, opened.written)
 
 
 def copy_database(side: str, path: str, limit: int) -> Copy:

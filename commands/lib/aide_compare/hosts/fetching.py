@@ -9,7 +9,7 @@ from contextlib import closing, suppress
 from aide_compare.base.ending import Fault, failing, write_all
 from aide_compare.base.escapes import shown
 from aide_compare.base.replacement import NewFile
-from aide_compare.base.processes import NOT_STARTED, OverTime, run, run_here
+from aide_compare.base.processes import NOT_STARTED, OverTime, bounded, run, run_here
 from aide_compare.hosts.store import CAUSE, NEW_FILE, HostDirectory, write_cause
 
 DATABASE = "/var/lib/aide/aide.db.new"
@@ -50,11 +50,7 @@ def transfer(directory: HostDirectory, part: NewFile, limit: int) -> None:
         except OSError as error:
             raise directory.fault(f"what it sent was not written: {write_cause(error)}")
 
-    def take_error(block: bytes) -> None:
-        errors.extend(block)
-        if len(errors) > MAX_ERRORS:
-            raise directory.fault(f"sent more than {MAX_ERRORS} bytes of errors")
-
+    take_error = bounded(errors, MAX_ERRORS, f"{directory.host}: sent errors of")
     words = [*SSH, directory.host, COMMAND]
     try:
         status = run(words, {1: take, 2: take_error}, deadline=directory.deadline)

@@ -112,13 +112,6 @@ def report_lines(report: Report) -> Iterator[str]:
         yield from shared_lines(report.shared(row), summary.counts.hosts)
 
 
-def beginning(text: str, width: int) -> str:
-    """A text in so many columns, without its end if it is longer."""
-    if len(text) <= width:
-        return text
-    return text[: width - 3] + "..."
-
-
 def short_names(shared: SharedChange) -> str:
     """The hosts of a change in few columns, such as "www1, www2 +35"."""
     for number in range(min(len(shared.names), shared.hosts), 0, -1):
@@ -198,7 +191,7 @@ def short_lines(report: Report) -> Iterator[str]:
     """Yields the lines of the short text, at most MAX_ROWS of at most MAX_COLUMNS."""
     summary = report.summary
     lists = host_lists(report.hosts)
-    head = [beginning(line, MAX_COLUMNS) for line in canary_lines(summary)]
+    head = [shortened(line, MAX_COLUMNS) for line in canary_lines(summary)]
     head += [headline(summary), summary.counts.others(), ""]
     head += list_lines("Not compared", lists["Not compared"], MAX_MISSING)
     head += list_lines("Not all listed", lists["Not all changes are listed"], MAX_CUT)

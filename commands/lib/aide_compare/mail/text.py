@@ -10,7 +10,7 @@ from collections.abc import Iterable, Sequence
 from textwrap import wrap
 from typing import NamedTuple
 
-from aide_compare.base.files import given_descriptor
+from aide_compare.base.files import is_name
 from aide_compare.base.words import KINDS
 from aide_compare.changes.judged import Judged
 from aide_compare.compare.state import State
@@ -37,11 +37,9 @@ def accept_lines(state: State) -> list[str]:
 
 
 def names_of(state: State, *sides: str) -> list[str]:
-    """The names of databases for a command. An escaped name is not the name, and a descriptor is
-    of no use to the reader, so both are left to the reader."""
+    """The names of databases for a command; what is no name is left to the reader."""
     names = {"old": state.old, "new": state.new}
-    is_given = any(given_descriptor(name) is not None for name in names.values())
-    if is_given or "\\" in state.old + state.new:
+    if not all(map(is_name, names.values())):
         return [side.upper() for side in sides]
     return [os.path.abspath(names[side]) for side in sides]
 

@@ -1,7 +1,6 @@
 """The changes of a comparison, judged."""
 from __future__ import annotations
 
-from aide_compare.base import progress
 from aide_compare.base.ending import why_of
 from aide_compare.base.words import TRUSTED_SIDES
 from aide_compare.changes.judged import Judged
@@ -25,7 +24,6 @@ def judge(comparison: Comparison) -> Judged | None:
             judged.group_by(records, TRUSTED_SIDES[1] in comparison.copies)
     except Exception as error:
         comparison.doubts.append(f"no package groups the changes: {why_of(error)}")
-    progress.note_step("the changes are judged")
     comparison.standings = judged.counts
     comparison.left_out = judged.left_out
     return judged
