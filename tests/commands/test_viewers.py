@@ -24,7 +24,7 @@ from tests.program.random_texts.databases import random_pair
 from tests.commands.viewers import deep, hostile, texts
 from tests.commands.viewers.expected import faults_of, without_same_rights
 from tests.commands.viewers.lines import Fields, changes_of, lines_of, objects_of
-from tests.commands.viewers.lines import page_over, proved_lines, stand
+from tests.commands.viewers.lines import page_over, proved_lines
 from tests.commands.viewers.pages import CASES, HAS_NODE, bytes_shown, contrast_faults, seen
 from tests.commands.viewers.refused import LINE_EDITS, rich_lines
 from tests.commands.viewers.schema import Validator, schema_of_lines
@@ -227,7 +227,7 @@ class ViewersTest(ProgramTest):
         objects = objects_of(rich_lines())
         levels = ("low", "high", "medium")
         for number, fields in enumerate(changes_of(objects)):
-            stand(fields, "open", levels[number % 3])
+            fields.update(standing="open", severity=levels[number % 3])
         whole = page_over(objects)
         self.check_page(objects)
         sections = [entry["section"] for entry in seen(whole)["entries"]]

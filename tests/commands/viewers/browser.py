@@ -1,7 +1,6 @@
 """A headless Chromium that gets its commands through two pipes."""
 from __future__ import annotations
 
-import base64
 import fcntl
 import json
 import os
@@ -12,6 +11,7 @@ import time
 from typing import Any
 
 NAMES = ["chromium", "chromium-browser", "google-chrome"]
+CHROMIUM = next(filter(None, map(shutil.which, NAMES)), None)
 OPTIONS = (
     "--headless=new --no-sandbox --disable-gpu --hide-scrollbars --remote-debugging-pipe"
     " --no-first-run".split()
@@ -24,20 +24,17 @@ class Browser:
     """A browser with one page. `faults` has what it has complained of: errors, and breaches of the
     content policy."""
 
-    def __init__(self, command: str | None = None) -> None:
+    def __init__(self) -> None:
         self.folder = tempfile.mkdtemp(prefix="page-")
         self.faults: list[str] = []
         self.count = 0
         self.rest = b""
-        command = command or next(filter(None, map(shutil.which, NAMES)), None)
-        if not command:
-            raise SystemExit("there is no Chromium (%s)" % ", ".join(NAMES))
         inner_read, write = os.pipe()
         read, inner_write = os.pipe()
         # The browser reads its orders from 3 and answers on 4.
         inner = [fcntl.fcntl(end, fcntl.F_DUPFD_CLOEXEC, 10) for end in (inner_read, inner_write)]
         self.process = subprocess.Popen(
-            [command, *OPTIONS, "--user-data-dir=" + self.folder, "about:blank"],
+            [CHROMIUM or "", *OPTIONS, "--user-data-dir=" + self.folder, "about:blank"],
             stdin=subprocess.DEVNULL,
             stdout=subprocess.DEVNULL,
             stderr=subprocess.DEVNULL,
@@ -76,18 +73,17 @@ class Browser:
             answer = self.receive()
             if answer.get("id") == self.count:
                 if "error" in answer:
-                    raise SystemExit("%s: %s" % (method, answer["error"]))
+                    raise AssertionError("%s: %s" % (method, answer["error"]))
                 result: dict[str, Any] = answer["result"]
                 return result
 
-    def open(self, path: str) -> float:
-        """Opens a page. Returns the seconds until it is loaded and its script has run."""
+    def open(self, path: str) -> None:
+        """Opens a page, and waits until it is loaded and its script has run."""
         began = time.time()
         self.ask("Page.navigate", url="file://" + path)
         while self.receive().get("method") != "Page.loadEventFired":
             if time.time() - began > SECONDS:
-                raise SystemExit("the page was not loaded")
-        return time.time() - began
+                raise AssertionError("the page was not loaded")
 
     def value(self, expression: str) -> Any:
         """What an expression of the page's language comes to."""
@@ -95,7 +91,7 @@ class Browser:
             "Runtime.evaluate", expression=expression, returnByValue=True, awaitPromise=True
         )
         if "exceptionDetails" in answer:
-            raise SystemExit("%s: %s" % (expression, json.dumps(answer["exceptionDetails"])[:300]))
+            raise AssertionError("%s: %s" % (expression, json.dumps(answer["exceptionDetails"])[:300]))
         return answer["result"].get("value")
 
     def worked(self) -> float:
@@ -119,20 +115,6 @@ class Browser:
     def resize(self, width: int, height: int) -> None:
         metrics = {"width": width, "height": height, "deviceScaleFactor": 1, "mobile": False}
         self.ask("Emulation.setDeviceMetricsOverride", **metrics)
-
-    def picture(self, path: str, width: int, height: int, dark: bool = False) -> None:
-        self.resize(width, height)
-        scheme = {"name": "prefers-color-scheme", "value": "dark" if dark else "light"}
-        self.ask("Emulation.setEmulatedMedia", features=[scheme])
-        self.ask("Runtime.evaluate", expression="scrollTo(0, 0)")
-        with open(path, "wb") as file:
-            file.write(base64.b64decode(self.ask("Page.captureScreenshot", format="png")["data"]))
-
-    def version(self) -> str:
-        session, self.session = self.session, None
-        name = self.ask("Browser.getVersion")["product"]
-        self.session = session
-        return str(name)
 
     def close(self) -> None:
         self.session = None

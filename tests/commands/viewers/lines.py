@@ -21,10 +21,6 @@ from aide_compare.show.page import MAX_PAGE, Rows, page
 Fields = dict[str, Any]
 # A comparison that knows nothing beside its lines.
 NAMELESS = failed_comparison(Fault(Status.DEVICE, "no databases"))
-# What proves a standing that is silent, and all names of counts.
-PROOFS = {"same": "old", "trusted": "trusted"}
-STANDINGS = ("same", "trusted", "left_out", "recorded", "open")
-SEVERE = [f"{name}_{each}" for name in ("open", "recorded") for each in ("high", "medium", "low")]
 
 
 def proved_lines(program: bytes, configuration: str) -> bytes:
@@ -42,32 +38,6 @@ def objects_of(text: bytes) -> list[Fields]:
 
 def changes_of(objects: list[Fields]) -> list[Fields]:
     return [fields for fields in objects if "kind" in fields]
-
-
-def stand(fields: Fields, standing: str, severity: str = "medium", package: str = "") -> None:
-    """Gives a change a standing, as aide-compare json does; what is silent has a proof and no
-    severity."""
-    for name in ("same_as", "standing", "severity", "package"):
-        fields.pop(name, None)
-    fields["standing"] = standing
-    if standing in PROOFS:
-        fields["same_as"] = PROOFS[standing]
-    else:
-        fields["severity"] = severity
-    if standing == "recorded":
-        fields["package"] = package
-
-
-def with_counts(objects: list[Fields]) -> list[Fields]:
-    """The objects with an end that has the counts of the standings."""
-    counts = dict.fromkeys([*STANDINGS, *SEVERE, "told_status"], 0)
-    for fields in changes_of(objects):
-        counts[fields["standing"]] += 1
-        if fields["standing"] not in PROOFS:
-            counts[f"{fields['standing']}_{fields['severity']}"] += 1
-    numbers: Fields = {"same_as_old": counts["same"], "same_as_trusted": counts["trusted"]}
-    numbers["others"] = counts["open"] + counts["recorded"]
-    return objects[:-1] + [{**objects[-1], **numbers, "standings": counts}]
 
 
 def lines_of(objects: list[Fields]) -> bytes:

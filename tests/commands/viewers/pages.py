@@ -8,10 +8,8 @@ import re
 import shutil
 import subprocess
 import tempfile
-from typing import Any, Tuple
+from typing import Any
 
-# The names in the path of a directory.
-Folder = Tuple[str, ...]
 KINDS = ["added", "removed", "changed"]
 HERE = os.path.dirname(os.path.abspath(__file__))
 CASES = os.path.join(HERE, "views.json")
@@ -47,37 +45,6 @@ def bytes_shown(text: str) -> bytes:
     return b"".join(
         bytes([int(part, 8)]) if index % 2 else part.encode() for index, part in enumerate(parts)
     )
-
-
-def wanted_folders(entries: list[tuple[int, str]]) -> list[list[Any]]:
-    """The directories of entries in the order of paths, each with the counts of what is in and
-    below it, and of itself.
-
-    A directory that has nothing but one directory in it is shown with that one.
-    """
-    counts: dict[Folder, list[int]] = {}
-    own: set[Folder] = set()
-    below: dict[Folder, list[Folder]] = {}
-    for kind, path in entries:
-        names = path.split("/")
-        for end in range(2, len(names)):
-            counts.setdefault(tuple(names[1:end]), [0, 0, 0])[kind] += 1
-    for kind, path in entries:
-        pieces = tuple(path.split("/")[1:])
-        if pieces in counts:
-            counts[pieces][kind] += 1
-        own.add(pieces if pieces in counts else pieces[:-1])
-    for folder in counts:
-        below.setdefault(folder[:-1], []).append(folder)
-    parts: dict[Folder, str] = {}
-    wanted: list[list[Any]] = []
-    for folder in sorted(counts):
-        name = parts.get(folder[:-1], "") + folder[-1]
-        if folder not in own and len(below.get(folder, ())) == 1:
-            parts[folder] = name + "/"
-        else:
-            wanted.append([name, counts[folder]])
-    return wanted
 
 
 def luminance(colour: str) -> float:
