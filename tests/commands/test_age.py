@@ -129,23 +129,3 @@ class AgeTest(CommandTest):
             answer = self.call(TOOL, "dated.db", "late.db")
             self.assertEqual(answer.status, 7, answer)
             self.assertEqual(said in answer.errors, is_older, (old, new, answer))
-
-    def test_values(self) -> None:
-        """What is no time leaves the state as it was."""
-        self.write("state", b"as before\n")
-        for words in (["--max-age"], ["--max-age="], ["--max-age", "1w"], ["--max-age", "31d"]):
-            self.refused(15, b"--max-age", TOOL, "--state", "state", "old.db", "new.db", *words)
-            self.assertEqual(self.read("state"), b"as before\n", words)
-
-    def test_readers(self) -> None:
-        """The check, the metrics and the line for the log take the refusal from the state."""
-        reason = self.too_old("late.db").errors.strip()
-        told = b"AIDE UNKNOWN: no comparison, status 18: " + reason + b"|age="
-        self.answered(3, told, b"", "check_aide_compare", "--state", "state")
-        told_by_log: list[bytes] = [b"nothing was compared", reason]
-        self.answered(0, told_by_log, b"", "aide-compare status", "--state", "state")
-        words = ("--format", "prometheus", "--state", "state", "metrics.prom")
-        self.answered(0, b"", b"", "aide-compare status", *words)
-        text = self.read("metrics.prom")
-        self.assertRegex(text, rb"(?m)_status 18$")
-        self.assertNotIn(b"_entries", text)

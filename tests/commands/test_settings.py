@@ -95,8 +95,3 @@ class SettingsTest(CommandTest):
         os.remove(self.path("etc/defaults"))
         self.assertEqual(mail.call(self, "--state", "state").status, 15)
         self.assertIn(b"no databases are named", mail.body(mail.sent(self)))
-
-    def test_own_file(self) -> None:
-        """AIDE's configuration itself is compared like any other file."""
-        self.morning()
-        self.assertIn(b"/etc/aide/aide.conf: content", mail.body(mail.sent(self)))
