@@ -99,16 +99,6 @@ class OccasionTest(CommandTest):
         )
         self.assertEqual(self.read("lines"), lines, "nothing was compared")
 
-    def test_gone(self) -> None:
-        """Options that jq is better at, and lines as an input."""
-        for tool, words in (
-            ("json", "--with=a=b --names --full --before=x"),
-            ("page", "--plain --title=x --before=x"),
-        ):
-            for word in words.split():
-                said = b"unrecognized arguments: " + word.encode()
-                self.refused(USAGE, said, f"aide-compare {tool}", word, OLD, NEW)
-
     def test_page(self) -> None:
         said = [OLD.encode(), b"-rw-r--r--", b"Open, severity ", b"<h1>File changes on "]
         self.answered(7, said, b"", "aide-compare page", OLD, NEW)

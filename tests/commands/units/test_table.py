@@ -83,6 +83,7 @@ class TableTest(ModuleTest):
         few = [change(b"/%d" % number) for number in range(3)]
         with mock.patch.object(tables, "MAX_ROWS", 2):
             self.fails(18, "there are more than 2 changes", table_of, *few)
+            self.expect("as many as may be", len(table_of(*few[:2])), 2)
         with mock.patch.object(rows.Rows.__init__, "__defaults__", (9 * rows.PAGE,)):
             many = [change(b"/%d" % number + b"n" * 999) for number in range(99)]
             self.fails(18, "cannot keep rows in ", table_of, *many)
