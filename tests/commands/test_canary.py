@@ -174,16 +174,6 @@ class CanaryTest(CommandTest):
         self.assertFalse([line for line in lines if "was not used" in line])
         self.assertIn(f"www2 4 {FIVE}2 open (2 high) of 5 changes", lines)
 
-    def test_always_there(self) -> None:
-        """What the canary always had accounts for nothing on a host that gets it."""
-        hosts = self.fleet()
-        hosts.put("www1", database(True, 51, EVIL), database(True, 1, EVIL))
-        hosts.put("www2", database(True, 52, EVIL), database(False, 2))
-        lines = self.compared(hosts, "--canary", "www1")
-        self.assertEqual(lines[0], f"www1 0 {FIVE}5 changes, all silent")
-        got = "www2 5 added 1, removed 0, changed 5: 3 open (3 high) of 6 changes"
-        self.assertIn(got, lines)
-
     def test_left_out_there(self) -> None:
         """What the list leaves out on the canary is told of a host on which it gives a right."""
         self.write("etc/without", "/var/**\n")

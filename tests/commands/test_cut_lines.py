@@ -2,7 +2,6 @@
 that are cut, damaged or of another run are named."""
 from __future__ import annotations
 
-import json
 import os
 
 from tests.lib.answer import Answer
@@ -41,22 +40,6 @@ class CutLinesTest(CommandTest):
             (said.status, said.output_text.count("\n"), said.error_text), (1, 2, ""), said
         )
 
-    def test_owners(self) -> None:
-        """A user who floods with changes of the same severity hides none of root's, and root's come
-        first."""
-        hosts = Hosts(self)
-        self.set_names("hosts.host_comparison", MAX_KEPT=20 << 10)
-        texts = [line(b"/a%04d" % number, b"", 1, b"100666") for number in range(FLOOD)]
-        flood = (text.replace(b"100666 0 0 ", b"100666 1000 1000 ") for text in texts)
-        root = line(b"/root/.bashrc"), line(b"/root/x")
-        hosts.compared({"long": (database(), database(*flood, *root))})
-        _, found, changes = hosts.objects()
-        self.assertEqual(found["long"]["report"], "cut", found)
-        paths = {each["path"] for each in changes}
-        self.assertTrue({"/root/.bashrc", "/root/x"} <= paths, "what root has is kept")
-        brief = hosts.report("--format", "brief").output_text
-        self.assertIn("severity high:\n  long                added    /root/.bashrc", brief)
-
     def report_of(self, hosts: Hosts, lines: bytes) -> Fields:
         """What the report says of a host whose lines these are."""
         self.write(LINES, lines, 0o600)
@@ -74,29 +57,6 @@ class CutLinesTest(CommandTest):
             whole = max(text[:size].count(b"\n") - 1, 0)
             self.assertEqual(found["report"], "unreadable", size)
             self.assertEqual(found["listed"], min(whole, 4), size)
-
-    def test_damaged(self) -> None:
-        """Lines in which something is not as it was written, and those of another run."""
-        hosts = four_hosts(self)
-        hosts.list_hosts("www1")
-        text = self.read(LINES)
-        for old, new in (
-            (b'"path":"/etc/p"', b'"path":"etc/p"'),
-            (b'"path":"/etc/p"', b'"same_as":"old","path":"/etc/p"'),
-            (b'"listed":4', b'"listed":3'),
-            (b'"open_high":', b'"open_high":1'),
-            (b'"end":true', b'"end":true}\n{"end":true'),
-            (b'"format":3', b'"format":2'),
-            (b'{"kind":"changed"', b'["kind"'),
-        ):
-            self.assertIn(old, text)
-            found = self.report_of(hosts, text.replace(old, new, 1))
-            self.assertEqual(found["report"], "unreadable", (old, new))
-        *lines, _, end = text.splitlines(keepends=True)
-        counts = json.loads(end)
-        counts.update(open=3, open_high=counts["open_high"] - 1, listed=3)
-        found = self.report_of(hosts, b"".join(lines) + json.dumps(counts).encode() + b"\n")
-        self.assertEqual(found["report"], "unreadable", "the lines of another run")
 
     def test_silent(self) -> None:
         """What is as it was, but for times and inodes, is counted and raises no alarm."""

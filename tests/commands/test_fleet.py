@@ -7,7 +7,6 @@ import os
 import re
 import signal
 import subprocess
-import sys
 import time
 from collections.abc import Sequence
 from typing import Any
@@ -18,7 +17,6 @@ from tests.lib.waiting import is_alive, until
 from .sandbox import CommandTest, END, HEAD, NEW, OLD, sha256
 
 COMPARE = "aide-compare hosts compare"
-ROOM = 40 << 20
 COUNTS = "added 1, removed 1, changed 2"
 DIFFERS = f"7 {COUNTS}: 4 open of 4 changes"
 PAIR = ("good1", "good2", "good3", "good4", "good5", "good6")
@@ -33,16 +31,6 @@ case $1 in
     killer) kill -9 $PPID; exit 1 ;;
 esac
 exec cat "ROOT/remote/$1"'''
-# The room that a host gets on a file system with 40 MB.
-SHARE = """import os, sys
-sys.path.insert(0, sys.argv[1])
-from aide_compare.hosts import store
-class Small:
-    f_bavail, f_frsize = 10240, 4096
-real = os.fstatvfs
-os.fstatvfs = lambda descriptor: Small
-print(store.HostDirectory(sys.argv[2], "endless", 1).room(8))
-"""
 
 
 def hostile() -> bytes:
@@ -159,8 +147,7 @@ class FleetTest(CommandTest):
 
     def test_small_store(self) -> None:
         """A store of 40 MB and no option: the host that sends without end gets a share of the room,
-        and the others theirs. Where nothing can be mounted, MAX_SENT is what limits it; the share
-        is tried in test_share."""
+        and the others theirs. Where nothing can be mounted, MAX_SENT is what limits it."""
         with self.mounted("store", "-t", "tmpfs", "-o", "size=40m,mode=755", "none") as is_small:
             fleet = Fleet(self)
             fleet.put("endless", OLD)
@@ -179,14 +166,6 @@ class FleetTest(CommandTest):
         self.fleet.not_compared("sent more than 3145728 bytes", said, "endless")
         left = set(os.listdir(self.path("store/hosts/endless")))
         self.assertEqual(left - {"aide.db", "lock", "not-fetched"}, set())
-
-    def test_share(self) -> None:
-        """A host never takes the room of the others. (The module itself is asked, so that no file
-        system has to be mounted.)"""
-        self.fleet.put("endless", OLD)
-        words = [sys.executable, "-c", SHARE, self.path("lib"), self.path("store")]
-        share = int(subprocess.check_output(words))
-        self.assertTrue(0 < share * 9 <= ROOM, share)
 
     def test_slow(self) -> None:
         for host in ("slow", "silent"):

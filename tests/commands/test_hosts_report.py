@@ -158,28 +158,6 @@ class HostsReportTest(CommandTest):
         )
         self.assertEqual([each["hosts"] for each in changes], [len(each[2]) for each in got])
 
-    def test_values(self) -> None:
-        """Values that are the same on all hosts of a change, and the names of those that are
-        not."""
-        changes = four_hosts(self).objects()[2]
-        none: dict[str, Any] = {"old": {}, "per_host": []}
-        found = {(each["path"], each["hosts"]): {**none, **each} for each in changes}
-        folder = found["/d", 4]
-        self.assertEqual(folder["per_host"], ["Size"], "a folder's size is its own")
-        self.assertEqual((folder["old"], folder["new"]), ({"Perm": "0755"}, {"Perm": "0700"}))
-        file = found["/etc/p", 4]
-        self.assertEqual((file["per_host"], file["old"]), (["Inode"], {}))
-        self.assertEqual(file["old_various"], ["Perm", "SHA256"])
-        self.assertEqual(list(file["new"]), ["Perm", "SHA256"])
-        same = found["/usr/.x", 3]
-        own = {"Inode", "Mtime"}
-        self.assertIn("SHA256", same["new"])
-        self.assertEqual((own & set(same["new"]), own & set(same["per_host"])), (set(), own))
-        self.assertNotIn("summary", same)
-        other = found["/usr/.x", 1]
-        self.assertEqual((other["new"]["Inode"], other["per_host"]), (4, []))
-        self.assertIn("summary", other)
-
     def test_orders(self) -> None:
         """JSON has the order of paths. The text has what is severe first, then what few hosts
         have."""
@@ -190,31 +168,6 @@ class HostsReportTest(CommandTest):
             r"(?m)^\w+ on (\d) of 5 hosts: .*\n\w+ \w+: (/.*)$", hosts.report().output_text
         )
         self.assertEqual(listed[:3], [("1", "/usr/.x"), ("3", "/usr/.x"), ("4", "/d")])
-
-    def test_importance(self) -> None:
-        """Of changes on as many hosts the order is that of one host: a set-ID program first, what
-        changed before what was added, and then the paths."""
-        hosts = Hosts(self)
-        old = database(line(b"/etc/sudoers", b"1"))
-        new = database(
-            line(b"/etc/cron.d/a", b"x"),
-            line(b"/etc/sudoers", b"2"),
-            line(b"/zz/suid", b"x", perm=b"104755"),
-        )
-        hosts.compared({"www1": (old, new), "www2": (old, old)})
-        paths = re.findall(
-            r"(?m)^\w+ on 1 of 2 hosts: www1\n\w+ \w+: (/.*)$", hosts.report().output_text
-        )
-        self.assertEqual(paths[0], "/zz/suid")
-        self.assertEqual(paths, self.paths_of_mail(old, new))
-
-    def paths_of_mail(self, old: bytes, new: bytes) -> list[str]:
-        """The paths of one pair of databases in the order of its brief."""
-        self.write("one.db", old)
-        self.write("two.db", new)
-        output = self.call("aide-compare", "one.db", "two.db").output.decode()
-        found: list[str] = re.findall(r"(?m)^  (?:added|changed|removed) +(/[^ :]+)", output)
-        return found
 
     def test_text(self) -> None:
         hosts = four_hosts(self)

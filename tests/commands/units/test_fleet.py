@@ -48,7 +48,7 @@ class FleetTest(ModuleTest):
         self.assertEqual(
             (row["names"], row["new"]), (["ant", "bee"], {**row["new"], "SHA256": "bb"})
         )
-        self.assertEqual(row["per_host"], ["Mtime"])
+        self.assertEqual((row["per_host"], "summary" in row), (["Mtime"], False))
         own = {"Inode": 7, "Mtime": 9, "Ctime": 9, "Atime": 9, "Bcount": 9, "Linkcount": 3}
         other = {name: value + 1 for name, value in own.items()}
         (row,) = self.hosts_of(
@@ -57,7 +57,7 @@ class FleetTest(ModuleTest):
         self.assertEqual(set(row["per_host"]), set(own))
         self.assertFalse(own.keys() & row["new"].keys(), "no value of one host is shown")
         (row,) = self.hosts_of("of one host", [1], changed("/srv/a", new=own))
-        self.assertNotIn("per_host", row)
+        self.assertEqual(("per_host" in row, "summary" in row), (False, True))
         self.assertEqual({**row["new"], **own}, row["new"], "all values are shown")
 
     def test_differ(self) -> None:
