@@ -61,11 +61,6 @@ class FaultsTest(CommandTest):
         self.write("bomb.gz", gzip.compress(b"\0" * 50000000))
         self.refused(18, b"more than 1000000 bytes", *words, "bomb.gz", **few)
 
-    def test_damage(self) -> None:
-        self.write("cut.gz", gzip.compress(NEW)[:30])
-        told = b"the new database cut.gz is compressed by gzip and is cut short or damaged"
-        self.refused(18, told, TOOL, "old.db", "cut.gz", state="state")
-
     def test_files(self) -> None:
         told = b"cannot open the old database missing: "
         self.refused(18, told, TOOL, "missing", "new.db")
@@ -137,6 +132,7 @@ class FaultsTest(CommandTest):
             ("counts of another status", f'"{away}" "$@"; exit 3', b"aide-compare: "),
             ("differences without a status", f'"{away}" "$@"; exit 0', b"aide-compare: "),
             ("an unknown status", "exit 99", b"aide-compare: "),
+            ("other error lines", f'"{away}" "$@"; echo "aide: odd" >&2; exit 7', b": aide: odd"),
         ):
             self.stub("aide", '[ "$1" = -D ] && exit 0; ' + body, "libexec/aide-compare")
             with self.subTest(label):
@@ -191,13 +187,6 @@ class FaultsTest(CommandTest):
         self.stub("aide_lines", 'echo "{}"', "libexec/aide-compare")
         words = ("--state", "state", "-A", "report_force_attrs=p", "old.db", "new.db")
         self.refused(18, other, "aide-compare", *words)
-
-    def test_other_errors(self) -> None:
-        """A report beside error lines that the program never prints is none."""
-        away = self.put_away(self.program)
-        self.stub("aide", f'"{away}" "$@"; echo "aide: odd" >&2; exit 7', "libexec/aide-compare")
-        told = b"does not run here: aide: odd"
-        self.refused(18, told, TOOL, "old.db", "new.db", state="state")
 
     def test_signals(self) -> None:
         """Signals while a database is awaited, while one is unpacked, and while the program runs:

@@ -54,16 +54,16 @@ class HintsTest(CommandTest):
             self.assertNotIn(b"line 1:", told)
 
     def test_configuration_hints(self) -> None:
-        """The line is quoted, with the file that it is in."""
+        """The line is quoted, with the file that it is in, also if -A replaces it."""
+        unknown = [b"config:2: unknown attribute\n", b"odd conf\n", b"line 2:  r"]
         for text, errors in (
-            (
-                "\n report_lvel=minimal",
-                [b"config:2: unknown attribute\n", b"odd conf\n", b"line 2:  r"],
-            ),
+            ("\n report_lvel=minimal", unknown),
             ("@@ifhost x", [b"config:1: left out of this profile\n", b"line 1: @@ifhost x\n"]),
             ("a\x1b[1m\x80", [b"line 1: a\\033[1m"]),
+            ("\nreport_level=x", [b"aide: config:2: bad value\n", b"line 2: report_level=x\n"]),
         ):
             self.write("odd conf", text)
-            self.refused(17, errors, TOOL, "-c", "odd conf", "old.db", "new.db")
+            words = ("-A", "report_level=summary", "old.db", "new.db")
+            self.refused(17, errors, TOOL, "-c", "odd conf", *words)
         told = [b"aide: after:2: bad value\n", b"the text of -A", b"line 2: report_level=x\n"]
         self.refused(17, told, TOOL, "old.db", "new.db", "-A", "\nreport_level=x")

@@ -51,6 +51,7 @@ class RecordedTest(CommandTest):
         elsewhere = Package("tool", "2", {BIN + b"other": TWO})
         conffile = Package("tool", "2", {}, conffiles={BIN + b"tool": TWO})
         gone = tool(state="deinstall ok config-files")
+        left = Package("tool", "2", {}, {BIN + b"tool": TWO}, state=gone.state)
         for label, host, want in (
             ("the package's", upgraded(TWO, inode=7), RECORDED),
             ("another one", upgraded(EVIL), OPEN),
@@ -58,6 +59,7 @@ class RecordedTest(CommandTest):
             ("of another path", upgraded(TWO, elsewhere), OPEN),
             ("of a package that is not there", upgraded(TWO, gone), OPEN),
             ("a conffile", upgraded(TWO, conffile), RECORDED),
+            ("a conffile of such a package", upgraded(TWO, left), OPEN),
         ):
             self.check(label, host, {BIN + b"tool": want})
 

@@ -112,19 +112,6 @@ class RunTest(CommandTest):
         os.remove(self.path("conf"))
         self.expect("none", self.run_tool("-c", "conf"), 18, b"", b"cannot open the configuration")
 
-    def test_faults_of_lines(self) -> None:
-        """A fault of the configuration is told with its line, also if -A replaces that, and so is
-        one of -A."""
-        for text, after, said in (
-            ("report_url=stdout\nreport_level=nonsense\n", "", "config:2"),
-            ("report_url=stdout\nreport_level=nonsense\n", "report_level=summary", "config:2"),
-            ("report_url=stdout\n", "\nreport_level=nonsense", "after:2"),
-        ):
-            self.write("faulty", text)
-            answer = self.run_tool("-c", "faulty", *(["-A", after] if after else []))
-            wanted = [f"aide: {said}: bad value\n".encode(), b"line 2: report_level=nonsense\n"]
-            self.expect("a fault in %s" % said, answer, 17, b"", wanted)
-
     def test_arguments(self) -> None:
         option = "report_level=minimal"
         for words in (
@@ -267,14 +254,6 @@ class RunTest(CommandTest):
             answer = self.call("aide-compare", *words)
             self.assertEqual(self.read("ran").decode().split(), runs, (words, answer))
             self.assertEqual(answer.status, 7, answer)
-
-    def test_state_faults(self) -> None:
-        os.makedirs(self.path("folder"))
-        answer = self.run_tool("--state", "folder")
-        self.expect("a state that is a folder", answer, 15, b"", b"is a directory")
-        answer = self.run_tool("--state", "old.db/state")
-        said = b"cannot write the state file"
-        self.expect("a state below a file", answer, 18, b"", said)
 
     def test_at_once(self) -> None:
         """Runs at once leave one whole state, and nothing else."""

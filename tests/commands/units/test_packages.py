@@ -35,15 +35,6 @@ class PackagesTest(ModuleTest):
     def dpkg(self) -> Dpkg:
         return Dpkg(self.path("dpkg"))
 
-    def test_members(self) -> None:
-        """A package of which only configuration is left has nothing."""
-        asked = {b"/usr/bin/tool", b"/usr/bin/gone", b"/etc/gone", b"/etc/tool", b"/etc/none"}
-        members = self.dpkg().members(asked, same)
-        self.expect("the paths", sorted(members), [b"/etc/tool", b"/usr/bin/tool"])
-        for path, found in members.items():
-            kinds = [(member.package, member.column) for member in found]
-            self.expect(f"of {path!r}", kinds, [("tool 2", "md5")])
-
     def test_others(self) -> None:
         """No record is read that others can write, and none but a regular file."""
         for name in ("status", "info/tool.list"):

@@ -108,6 +108,9 @@ class ReplacementTest(PlacesTest):
         os.mkfifo(self.path("own/late"))
         self.fails(18, "a FIFO", late.commit, b"x")
         self.assertTrue(stat.S_ISFIFO(os.lstat(self.path("own/late")).st_mode), "it stays")
+        os.remove(self.path("own/late"))
+        os.mkdir(self.path("own/late"))
+        self.fails(15, "is a directory", late.commit, b"x")
         self.assertEqual(replaced(self.path("sticky/state"), b"x")[:3], (b"x", 0o644, me))
         if me == 0:
             self.fails(18, "other users", begun, self.path("his/state"))
