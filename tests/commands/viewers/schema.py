@@ -56,8 +56,6 @@ PLAIN: dict[str, Callable[[Any, Any], bool]] = {
     "uniqueItems": lambda value, rule: not isinstance(value, list)
     or len(set(map(json.dumps, value))) == len(value),
     "required": lambda value, rule: not isinstance(value, dict) or set(rule) <= set(value),
-    "dependentRequired": lambda value, rule: not isinstance(value, dict)
-    or all(set(rule.get(name, ())) <= set(value) for name in value),
 }
 
 
