@@ -1,5 +1,5 @@
-"""The page of aide-compare page in a headless Chromium: what a reader clicks and types, and what the
-page then shows."""
+"""The page of aide-compare page in a headless Chromium: what a reader clicks and types, and what it
+then shows."""
 from __future__ import annotations
 
 import json
@@ -44,7 +44,7 @@ NARROW = """Math.min(...[...document.querySelectorAll('#tree > li > .folder code
   (one) => one.clientWidth || one.offsetWidth))"""
 # Opens all directories; what the tree then says of each; and the entries that are listed.
 UNFOLD = """for (let folds; (folds = [...document.querySelectorAll(
-  '[aria-expanded="false"] > .folder > .fold')]).length;) { for (const fold of folds) fold.click(); }"""
+  '[aria-expanded="false"] > .folder > .fold')]).length;) folds.forEach((fold) => fold.click());"""
 LABELS = """[...document.querySelectorAll('#tree [role=treeitem]')].map(
   (one) => one.getAttribute('aria-label'))"""
 LISTED = f"""[...document.querySelectorAll('{ENTRY}')].map(
@@ -374,7 +374,7 @@ class BrowserTest(CommandTest):
         worked = self.browser.worked()
         self.open(path)
         self.assertLess(self.browser.worked() - worked, MOST_SECONDS)
-        searches = [SEARCHED % SEARCH % json.dumps(text) for text in ("package-0001", "zzz", "/file-007")]
+        searches = [SEARCHED % SEARCH % f'"{text}"' for text in ("package-0001", "zzz", "/file-07")]
         for expression in (*searches, "document.querySelector('#kind button').click()"):
             worked = self.browser.worked()
             self.browser.value(expression)

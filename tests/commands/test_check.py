@@ -73,15 +73,9 @@ class CheckTest(StateTest):
             ("nothing", ""),
             ("half", whole[:40]),
             ("no end", whole[:-7]),
-            ("another format", whole.replace('"format": 3', '"format": 2')),
-            ("other keys", whole.replace("added", "x")),
-            ("no number", whole.replace('"removed": 0', '"removed": "0"')),
-            ("no status", whole.replace('"status": 0', '"status": null')),
-            ("a large number", whole.replace('"status": 0', '"status": ' + "9" * 30)),
             ("counts that are not of the status", whole.replace('"added": 0', '"added": 1')),
             ("deep", "[" * 60000),
             ("a list", "[]"),
-            ("a number", "3"),
             ("NUL", whole.replace("status", "\0")),
         ):
             self.assertNotEqual(text, whole, label)

@@ -179,6 +179,7 @@ class FloodsTest(CommandTest):
         self.assertEqual(text.count(b"/home/anna/n"), 5, "the share of a folder")
         self.assertIn(b" more\n", text)
         self.assertIn(b"5003 added", text)
+        self.assertIn(b"the changes have more than 1048576", text, "why they were not judged")
 
     def test_same_content(self) -> None:
         """An entry with all that it had but times and inode is the same, by a digest of 256 bits of

@@ -4,7 +4,6 @@ from __future__ import annotations
 import hashlib
 import os
 import random
-import re
 from typing import Any, Dict, Tuple
 
 from tests.commands.made_up import (
@@ -89,21 +88,6 @@ class RecordedTest(CommandTest):
             host.packages.append(Package("tool", "2", {}, listed=(LIB + b"new",)))
             self.check(f"a new directory, {perm:o}", host, {LIB + b"new": want})
 
-    def test_other_rights(self) -> None:
-        """Records know no mode, owner or list: a change of one stays open, also with the right
-        content."""
-        rows: Dict[str, Dict[str, Any]] = {
-            "owner": {"uid": 33},
-            "group": {"gid": 33},
-            "mode": {"perm": "104755"},
-            "access list": {"acl": acl_of(MORE_ACL)},
-            "capabilities": {"capabilities": base64_of(b"cap_setuid=ep")},
-            "flags": {"e2fsattrs": "524304"},
-            "links": {"lcount": 2},
-        }
-        for label, more in rows.items():
-            self.check(f"another {label}", upgraded(TWO, **more), {BIN + b"tool": OPEN})
-
     def test_names(self) -> None:
         """Directories that are links to those in /usr are followed."""
         host = upgraded(TWO, Package("tool", "2", {b"/bin/tool": TWO}))
@@ -142,15 +126,6 @@ class RecordedTest(CommandTest):
         lines = host.brief(self).split("\n")
         wanted = ["New packages: came", "Removed packages: left, went", ""]
         self.assertEqual(lines[1:4], wanted, ("the packages", lines[:6]))
-        host = Host()
-        for number in range(60):
-            name = f"new-{number:02}"
-            host.new.file(INFO + f"{name}.list".encode(), ONE)
-            host.packages.append(Package(name, "1", {}))
-        text = host.brief(self)
-        head = re.sub(r"\s+", " ", text.partition("\n\n")[0])
-        missing = [number for number in range(60) if f"new-{number:02}" not in head]
-        self.assertFalse(missing, ("all of many", (missing, text[:900])))
 
     def test_damage(self) -> None:
         """Damaged records group less, and end nothing."""

@@ -99,10 +99,6 @@ class OccasionTest(CommandTest):
         )
         self.assertEqual(self.read("lines"), lines, "nothing was compared")
 
-    def test_page(self) -> None:
-        said = [OLD.encode(), b"-rw-r--r--", b"Open, severity ", b"<h1>File changes on "]
-        self.answered(7, said, b"", "aide-compare page", OLD, NEW)
-
     def test_streams(self) -> None:
         """A full device and closed streams are no success, and leave nothing half said."""
         for tool in ("aide-compare json", "aide-compare page"):

@@ -194,6 +194,7 @@ class TextsTest(ModuleTest):
             ("status", None),
             ("status", 0),
             ("status", True),
+            ("status", 10**30),
             ("added", None),
             ("added", "1"),
             ("added", -1),
