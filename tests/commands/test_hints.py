@@ -48,7 +48,8 @@ class HintsTest(CommandTest):
 
     def test_packed(self) -> None:
         """What does not begin as a database may be packed, and is not quoted then."""
-        for text in (b"\xfd7zXZ\0" + NEW, gzip.compress(gzip.compress(NEW)), b"\xef\xbb\xbf" + NEW):
+        beginnings = (b"\xfd7zXZ\0", b"\x28\xb5\x2f\xfd", b"BZh9", b"\xef\xbb\xbf")
+        for text in (*(each + NEW for each in beginnings), gzip.compress(gzip.compress(NEW))):
             told = self.hinted(text)
             self.assertIn(SHOWN + b"; it is not an AIDE database, ", told.splitlines()[1])
             self.assertNotIn(b"line 1:", told)
