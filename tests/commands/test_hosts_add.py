@@ -18,17 +18,22 @@ from .test_fleet import DIFFERS, Fleet
 PROMPT = b"yes or no: "
 SSH_PROMPT = b"(yes/no/[fingerprint])? "
 SSHD = "/usr/sbin/sshd"
-# It asks for a key where no way to log in is tried, and knows it from then on.
+# It asks for a key where no way to log in is tried, of one host on its terminal, and knows it then.
 SSH = """way=
 while [ "${1#-}" != "$1" ]; do
     [ "$2" = PreferredAuthentications=none ] && way=none
     [ "$1" = -o ] && shift
     shift
 done
-[ "$way" ] && { [ "$1" = changed ] || echo "$1 KEY" >> ROOT/known_hosts; exit 255; }
+if [ "$way" ]; then
+    [ "$1" = asks ] && { printf '(yes/no/[fingerprint])? ' > /dev/tty; read answer < /dev/tty; }
+    case $1$answer in changed | asksno) ;; *) echo "$1 KEY" >> ROOT/known_hosts ;; esac
+    exit 255
+fi
 case $1 in
     denied) echo "root@denied: Permission denied (publickey)." >&2; exit 255 ;;
-    changed) echo "Host key verification failed." >&2; exit 255 ;;
+    changed | asks) grep -q "^$1 " ROOT/known_hosts ||
+        { echo "Host key verification failed." >&2; exit 255; } ;;
 esac
 exec cat "ROOT/remote/$1\""""
 
@@ -164,6 +169,16 @@ class HostsAddTest(CommandTest):
         shutil.rmtree(self.path("store/hosts/www"))
         asked = add(self, "www", "YES\n")
         self.assertEqual((asked.status, files(self)["etc-hosts"]), (0, "www\n"), asked)
+
+    def test_asked_by_ssh(self) -> None:
+        """ssh asks on the same terminal before all else; after its no nothing is fetched."""
+        self.fleet.put("asks", OLD, None)
+        self.write("known_hosts", "")
+        asked = add(self, "asks", "", key=b"no\n")
+        self.assertEqual((asked.status, files(self)), (18, {}), asked)
+        self.assertIn("is its key in known_hosts?", asked.output_text)
+        asked = add(self, "asks", "yes\n", key=b"yes\n")
+        self.assertEqual((asked.status, files(self)["etc-hosts"]), (0, "asks\n"), asked)
 
     def test_several(self) -> None:
         """Each host has a question of its own, and what ends one ends no other one."""
