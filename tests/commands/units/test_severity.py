@@ -74,6 +74,7 @@ RIGHTS: list[tuple[str, Side, Side, str]] = [
     ("capabilities", entry(PROGRAM), CAPABLE, "high"),
     ("a file that came with capabilities", None, entry(FILE, capabilities=SETUID), "high"),
     ("the same capabilities", CAPABLE, CAPABLE, "high"),
+    ("capabilities that went", CAPABLE, entry(PROGRAM), "high"),
     ("capabilities as an attribute", entry(PROGRAM), entry(PROGRAM, xattrs=CAPABILITY), "high"),
     ("another attribute", entry(FILE), entry(FILE, xattrs=b"1,user.a,AAAA"), "medium"),
     ("a link to a file with capabilities", None, entry(0o120777, capabilities=SETUID), "medium"),

@@ -65,6 +65,14 @@ class WeighingTest(ModuleTest):
             self.assertEqual(again[:-1], came[:-1], "known, or too long to be kept")
         self.assertEqual((came.line_at, came.party, came.form), (7, None, "file"))
 
+    def test_types(self) -> None:
+        """Two types that have one word are no same one, whatever lines with this word came before."""
+        socket = {**OLD, "Type": "Other"}
+        pair = [fields_of(letters, old=socket, new=socket) for letters in (SAME, "!" + SAME[1:])]
+        for first, then in (pair, pair[::-1]):
+            scales = Scales()
+            self.assertNotEqual(weighed(scales, first).rank, weighed(scales, then).rank)
+
     def test_differing(self) -> None:
         """A right whose letter says no difference is no value of the change; all others stay."""
         change = change_of(fields_of(old=OLD, new=NEW))
@@ -86,7 +94,7 @@ class WeighingTest(ModuleTest):
             fields_of(SAME[:4] + ":" + SAME[5:], old=OLD, new={**NEW, "Perm": "0700"})
         )
         self.assertEqual(ignored.new, {"SHA256": "11"}, "a difference that is passed over")
-        came = change_of(fields_of("f" + 17 * "+", new=NEW))
+        came = change_of(fields_of("f+++:" + 13 * "+", new=NEW))
         self.assertEqual(came.new.keys(), {*NEW} - {"XAttrs_hex"} | {"XAttrs"})
         one = change_of(fields_of(old={"SHA256": "00"}, new={**NEW, "Type": "File"}))
         self.assertIn("Type", one.new, "a type that only one side has")
