@@ -122,8 +122,7 @@ class ColumnsTest(CommandTest):
         """After a run that compared nothing a column is told once more."""
         mail.take_mail(self)
         self.mails("same.db", FSTYPE)
-        failed = mail.call(self, *STATE, "o.db", "none.db")
-        self.expect("a run that fails", failed, 18, b"")
+        self.expect("a run that fails", mail.call(self, *STATE, "o.db", "none.db"), 18, b"")
         mail.sent(self)
         self.mails("same.db", FSTYPE)
         self.mails("same.db", None)

@@ -174,8 +174,7 @@ class SetupTest(CommandTest):
         one = b"1 thing is missing\n"
         self.write("stopped", "")
         timer = b"missing: the timer aide-compare.timer\n"
-        answer = self.call(TOOL, "--check")
-        self.expect("the timer is stopped", answer, 18, [timer, one])
+        self.expect("the timer is stopped", self.call(TOOL, "--check"), 18, [timer, one])
 
     def test_again(self) -> None:
         """A second run passes over what is there, and what an administrator wrote stays."""

@@ -378,8 +378,7 @@ class WithoutTest(CommandTest):
             self.expect("%s" % words, answer, status, b"", [said])
             self.assertNotIn(b"aide: list:", answer.errors, "the line of the program")
         self.write("almost", b"# comment\n" * 13100)
-        answer = self.call(JSON, "--exclude-from", "almost", "o.db", "n.db")
-        self.expect("a large list", answer, 7)
+        self.expect("a large list", self.call(JSON, "--exclude-from", "almost", "o.db", "n.db"), 7)
 
     def test_writable(self) -> None:
         """A list that other users can write is refused."""
