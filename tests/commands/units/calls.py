@@ -48,22 +48,17 @@ class ModuleTest(ScratchTest):
         with self.subTest(label):
             self.assertEqual(got, want)
 
-    def expect_fault(self, label: str, got: Any, status: int, *parts: str) -> None:
-        """A call ended with a Fault of this status, whose text has these parts."""
-        with self.subTest(label):
-            self.assertIsInstance(got, tuple)
-            self.assertEqual(got[0], status, got)
-            for part in parts:
-                self.assertIn(part, got[1])
-
     def gives(self, want: object, work: Callable[..., Any], *given: Any) -> None:
         """A call returns this."""
         self.expect(f"{work.__name__} of {given!r:.300}", outcome(work, *given), want)
 
     def fails(self, status: int, part: str, work: Callable[..., Any], *given: Any) -> None:
         """A call ends with a Fault of this status, whose text has this part."""
-        label = f"{work.__name__} of {given!r:.300}"
-        self.expect_fault(label, outcome(work, *given), status, part)
+        got = outcome(work, *given)
+        with self.subTest(f"{work.__name__} of {given!r:.300}"):
+            self.assertIsInstance(got, tuple)
+            self.assertEqual(got[0], status, got)
+            self.assertIn(part, got[1])
 
 
 class PlacesTest(ModuleTest):
