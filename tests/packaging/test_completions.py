@@ -175,14 +175,16 @@ class CompletionsTest(InstallTest):
 
     def test_fish(self) -> None:
         self.needs("fish")
-        home = self.path("home")
-        os.makedirs(home)
-        surroundings = dict(
-            os.environ,
-            HOME=home,
-            XDG_DATA_DIRS=self.first("share"),
-            PATH=":".join([self.first("bin"), os.environ["PATH"]]),
-        )
+        os.makedirs(self.path("home"))
+        places = {"HOME": self.path("home"), "XDG_DATA_DIRS": self.first("share")}
+        surroundings = {**os.environ, **places, "PATH": f"{self.first('bin')}:{os.environ['PATH']}"}
+
+        def offered(line: str) -> list[str]:
+            words = ["fish", "-c", f"complete -C '{line}'"]
+            done = self.run_words(words, cwd=self.source, env=surroundings, timeout=60)
+            self.assertEqual(done.status, 0, ("fish completes " + line, done))
+            return [one.split("\t")[0] for one in done.output_text.splitlines()]
+
         for line, wanted in (
             ("aide-compare --config-c", ["--config-check"]),
             ("aide-compare -E -A report_level=su", ["report_level=summary"]),
@@ -194,19 +196,6 @@ class CompletionsTest(InstallTest):
             ("aide-compare hosts report --format js", ["json"]),
             ("aide-compare hosts rep", ["report"]),
         ):
-            done = self.run_words(
-                ["fish", "-c", "complete -C '%s'" % line],
-                cwd=self.source,
-                env=surroundings,
-                timeout=60,
-            )
-            given = [one.split("\t")[0] for one in done.output_text.splitlines()]
-            self.assertTrue(done.status == 0 and given == wanted, ("fish completes " + line, done))
-        done = self.run_words(
-            ["fish", "-c", "complete -C 'aide-compare -E -A report_'"],
-            cwd=self.source,
-            env=surroundings,
-            timeout=60,
-        )
-        named = {one.split("=")[0] for one in done.output_text.splitlines()}
+            self.assertEqual(offered(line), wanted, "fish completes " + line)
+        named = {one.split("=")[0] for one in offered("aide-compare -E -A report_")}
         self.assertEqual(named, set(REPORT_OPTIONS), "fish names the options of the report")
