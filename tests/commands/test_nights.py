@@ -19,46 +19,6 @@ from tests.lib.scratch import TOP
 
 DIRECTORY = os.path.join(TOP, "tests", "nights")
 NIGHT = re.compile(r"n\d+-[a-z-]+\.txt")
-# What the intruder did in each of his nights.
-ALWAYS = (
-    "/usr/local/sbin/.x",
-    "/usr/bin/ls",
-    "/usr/bin/pgrep",
-    "/var/lib/dpkg/info/procps.md5sums",
-    "/usr/local/lib/libprocess.so",
-    "/etc/ld.so.preload",
-    "/root/.ssh/authorized_keys",
-    "/etc/cron.d/sysstat",
-    "/var/log/syslog.5.gz",
-    "/etc/passwd",
-    "/usr/local/bin/p",
-    "/usr/bin/passwd",
-    "/etc/cron.d",
-)
-COMPILED = "/usr/lib/python3/dist-packages/yaml/__pycache__/loader.cpython-311.pyc"
-MARKS = {
-    "n6-install-intruder": ("/usr/bin/git", COMPILED),
-    "n7-upgrade-intruder": (
-        "/usr/bin/openssl",
-        "/usr/sbin/sshd",
-        "/usr/bin/xz",
-        "/etc/nginx/nginx.conf",
-        "/usr/lib/python3.11/__pycache__/os.cpython-311.pyc",
-        "/usr/lib/x86_64-linux-gnu/libdns-9.18.49-1~deb12u4-Debian.so",
-    ),
-    "n8-repack-intruder": ("/usr/bin/tree", "/etc/logrotate.conf", "/usr/share/at/batch-job"),
-    "n10-kernel-intruder": (
-        "/boot/initrd.img-6.1.0-50-cloud-amd64",
-        "/usr/lib/modules/6.1.0-50-cloud-amd64/kernel/net/x.ko",
-    ),
-    "n11-rotate-intruder": ("/var/log/auth.log.1", "/var/log/syslog.2.gz", "/var/log/auth.log"),
-}
-# He has forged dpkg's records of these, so they are told with their package: of pgrep always.
-PGREP = "/usr/bin/pgrep"
-FORGED = {
-    "n6-install-intruder": (PGREP, "/usr/lib/python3/dist-packages/yaml/_hook.py"),
-    "n7-upgrade-intruder": (PGREP, "/usr/bin/rsync"),
-}
 
 Parts = Dict[str, List[str]]
 
@@ -110,13 +70,10 @@ def wanted_of(parts: Parts) -> Dict[bytes, str]:
 class NightsTest(CommandTest):
     def test_nights(self) -> None:
         names = sorted(name[:-4] for name in os.listdir(DIRECTORY) if NIGHT.fullmatch(name))
-        self.assertLessEqual(set(MARKS), set(names), "there are nights")
+        self.assertGreater(len(names), 6, "there are nights")
         for name in names:
             parts = read_night(name)
-            found = self.found_in(name, parts)
-            self.assertEqual(found, wanted_of(parts), name)
-            if name in MARKS:
-                self.check_marks(name, found)
+            self.assertEqual(self.found_in(name, parts), wanted_of(parts), name)
 
     def found_in(self, name: str, parts: Parts) -> Dict[bytes, str]:
         """What the commands say of a night, by path."""
@@ -126,10 +83,3 @@ class NightsTest(CommandTest):
         answer = self.call("aide-compare json", "old.db", "new.db")
         self.assertIn(answer.status, range(1, 8), (f"{name} is compared", answer))
         return standings_of(objects_of(answer), ("standing", "package"))
-
-    def check_marks(self, name: str, found: Dict[bytes, str]) -> None:
-        """Each mark of the intruder is open, but for those whose records he has forged."""
-        forged = FORGED.get(name, (PGREP,))
-        for path in (*ALWAYS, *MARKS[name], *forged):
-            got = found.get(path.encode(), "no change").split(" ")[0]
-            self.assertEqual(got, "recorded" if path in forged else "open", (name, path))
