@@ -199,15 +199,3 @@ class FrontTest(CommandTest):
                 self.assertIn(first, text, record[:200])
                 self.assertIn(last, text, record[:200])
         os.remove(program + ".build")
-
-    def test_forms(self) -> None:
-        """One state in each form."""
-        self.call(TOOL, "--state", "state", "old.db", "new.db")
-        tool, words = "aide-compare status", ("--state", "state")
-        counts = b"\n4 open of 4 changes: 1 added, 1 removed, 2 changed.\n"
-        self.answered(0, counts, b"", tool, "--format", "json", "--format=text", *words)
-        self.answered(0, self.read("state"), b"", tool, "--format", "json", *words)
-        for faulty in ("--format line", "--format", "--format=", "--format json x", "--critical 5x"):
-            self.refused(15, b"aide-compare", tool, *faulty.split())
-        with open("/dev/full", "wb") as full:
-            self.answered(18, None, None, tool, "--format=json", *words, stdout=full)

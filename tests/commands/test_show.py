@@ -2,13 +2,12 @@
 from __future__ import annotations
 
 import base64
-import json
 import os
 import unittest
 
 from tests.commands.viewers.pages import HAS_NODE, seen
 
-from .sandbox import CommandTest, END, HEAD
+from .sandbox import CommandTest, END
 
 TOOL = "aide-compare show"
 COLUMNS = b"@@begin_db\n@@db_spec name lname attr perm bcount uid gid size mtime inode lcount sha256 acl xattrs\n"
@@ -99,27 +98,6 @@ class ShowTest(CommandTest):
             self.assertTrue(answer.output.startswith(b"open medium added Link: " + shown), answer)
             self.assertEqual((answer.output.count(b"Link: "), b"\x1b" in answer.output), (1, False))
             self.assertNotIn(b"\n* size", answer.output)
-
-    def test_unseen(self) -> None:
-        """Characters that nobody sees: people get none of them, and JSON has them by their
-        numbers."""
-        escaped = "\u0085\u061c\u200e\u200f\u2028\u202e\u2066\u2069"
-        plain = "\u034f\u200b\u3164\ufe0f\ufeff\U000e0001\U000e0041\U000e0200"
-        name = b"".join(b"%%%02x" % byte for byte in (escaped + plain).encode())
-        self.write("unseen.db", HEAD + b"/" + name + b" 36 100644 1\n" + END)
-        self.write("none.db", HEAD + END)
-        pair = ("none.db", "unseen.db")
-        for tool, *words in (
-            ["aide-compare"],
-            ["aide-compare", "--only", "/**"],
-            ["aide-compare page"],
-        ):
-            text = self.call(tool, *words, *pair).output.decode()
-            self.assertTrue(text, tool)
-            self.assertFalse(set(escaped + plain) & set(text), tool)
-        line = self.call("aide-compare json", *pair).output.decode().splitlines()[1]
-        self.assertTrue(line.isascii(), line)
-        self.assertEqual(json.loads(line)["path"], "/" + escaped + plain)
 
     def test_refused(self) -> None:
         pair = ["old.db", "new.db"]

@@ -75,12 +75,14 @@ class StatusTest(StateTest):
             self.expect(f"metrics to {path}", self.ask(METRICS, path), 18, b"", said)
         self.assertFalse(os.path.exists(self.path("no")), "no directory is made")
         with open("/dev/full", "wb") as full:
-            self.expect("a full device", self.ask(METRICS, stdout=full), 18)
+            for tool in (METRICS, STATUS + " --format json"):
+                self.expect("a full device", self.ask(tool, stdout=full), 18)
 
     def test_arguments(self) -> None:
         odd = ["--odd"], ["--state"], ["--max-age", "x"], ["--format", "prometheus", "a", "b"]
+        forms = ["--format", "line"], ["--format="], ["--format", "json", "x"], ["--critical", "5x"]
         ignored = ["--format", "json", "--max-age", "2h"], ["--format", "prometheus", "--quiet"]
-        for words in odd + ignored:
+        for words in odd + forms + ignored:
             answer = self.call(STATUS, *words)
             self.expect(f"status with {words}", answer, 15, b"", b"aide-compare status: ")
 
@@ -114,16 +116,17 @@ class StatusTest(StateTest):
         """Each form says if there is no state; no file's name is taken for another command; and
         the numbers of JSON are numbers."""
         for form in ("text", "json", "prometheus"):
-            answer = self.call(STATUS, "--format", form, "--state", "none")
-            self.assertEqual(answer.status, 18, (form, answer))
-            self.assertIn(b"none", answer.errors)
+            self.answered(18, None, b"none", STATUS, "--format", form, "--state", "none")
         os.rename(self.put(status=1, added=1), self.path("nagios"))
         answer = self.call(STATUS, "--state", "nagios")
         self.expect("a state that is called nagios", answer, 0, b"Last comparison: ")
         self.expect("metrics", self.call(METRICS, "--state", "nagios", "nagios"), 0, b"")
         self.assertIn(b"gauge", self.read("nagios"))
         self.call("aide-compare", "--exclude", "/b", "--state", "state", "old.db", "new.db")
+        text = b"3 open of 4 changes"
+        self.answered(0, text, b"", STATUS, "--format=json", "--format", "text", "--state", "state")
         found = json.loads(self.ask(STATUS, "--format", "json").output)
+        self.assertEqual(found, json.loads(self.read("state")))
         numbers = {name for name, value in found.items() if type(value) is int}
         self.assertLessEqual({"added", "time", "status", "left_out"}, numbers)
         texts = [
