@@ -50,11 +50,8 @@ class HostsPageTest(CommandTest):
         head, values = self.only(rows, "/usr/.x", "on 3 of 6 hosts: www1, www2 and 1 more")
         self.assertEqual(head["per_host"], ["Mtime", "Inode", "Linkcount"])
         self.assertIn("rwsr-xr-x", values["new"]["Perm"][1])
-        self.assertIn("SHA256", head["labels"].split())
-        head, values = self.only(rows, "/etc/p", "hosts")
-        self.assertEqual(
-            (head["old_various"], values["new"]["Perm"][0]), (["Perm", "SHA256"], "0600")
-        )
+        head, _ = self.only(rows, "/etc/p", "hosts")
+        self.assertEqual(head["old_various"], ["Perm", "SHA256"])
 
     def test_fewest(self) -> None:
         """Of one severity, what the fewest hosts have comes first."""
