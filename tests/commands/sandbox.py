@@ -71,11 +71,7 @@ exec(compile(text_of("/front"), __file__, "exec"))
 """
 
 
-def as_user(number: int) -> str:
-    return "os.setgroups([]); os.setgid(%d); os.setuid(%d)" % (number, number)
-
-
-AS_NOBODY = as_user(NOBODY)
+AS_NOBODY = "os.setgroups([]); os.setgid(%d); os.setuid(%d)" % (NOBODY, NOBODY)
 
 
 def after(before: str | None, command: list[str]) -> list[str]:
@@ -98,17 +94,6 @@ Texts = Optional[Union[bytes, "list[bytes]"]]
 
 def sha256(text: bytes) -> str:
     return hashlib.sha256(text).hexdigest()
-
-
-def texts_of_state(text: str | bytes) -> dict[str, str]:
-    """The values of a state file as texts, an empty one if it is not known."""
-    try:
-        fields = json.loads(text)
-    except ValueError:
-        return {}
-    words = {key: " ".join(value) for key, value in fields.items() if isinstance(value, list)}
-    unknown = {key: "" for key, value in fields.items() if value is None}
-    return {key: str(value) for key, value in {**fields, **words, **unknown}.items()}
 
 
 @functools.lru_cache(maxsize=None)
@@ -295,14 +280,12 @@ class CommandTest(ScratchTest):
         return answer
 
     def state(self, name: str = "state") -> dict[str, str]:
-        """A state file as a map of texts, those of lists with blanks; nothing where there is
-        none."""
-        if not os.path.exists(self.path(name)):
+        """A state file as a map of texts, those of lists with blanks, and an empty one of what is
+        not known; nothing where there is no state."""
+        try:
+            fields = json.loads(self.read(name))
+        except (FileNotFoundError, ValueError):
             return {}
-        return texts_of_state(self.read(name))
-
-    def change_state(self, name: str, **values: Any) -> None:
-        """A state file has other values, or is of so many seconds later."""
-        fields = json.loads(self.read(name))
-        fields["time"] += values.pop("seconds", 0)
-        self.write(name, json.dumps({**fields, **values}))
+        words = {key: " ".join(value) for key, value in fields.items() if isinstance(value, list)}
+        unknown = {key: "" for key, value in fields.items() if value is None}
+        return {key: str(value) for key, value in {**fields, **words, **unknown}.items()}

@@ -238,7 +238,7 @@ class ListedOnceTest(CommandTest):
         fleet.send(NAMES)
         self.assertEqual(fleet.night(), {CANARY: 4})
         self.assertNotIn("listed nowhere", fleet.report().output_text)
-        self.put_mail()
+        self.stub("sendmail", f'cat > "{self.root}/mail"')
         others = self.write("others", "".join(f"{host}\n" for host in NAMES if host != CANARY))
         said = fleet.call("aide-compare hosts report", "--to", "root", others)
         self.assertIn("is not listed here", self.read("mail").decode().split("\n\n")[1])
@@ -249,6 +249,3 @@ class ListedOnceTest(CommandTest):
         self.assertEqual(said.error_text, "")
         second = self.read("mail").decode().split("\n\n")[1].split("\n")[1]
         self.assertTrue(second.startswith(f"Canary {CANARY}: what was silent beside it"), second)
-
-    def put_mail(self) -> None:
-        self.stub("sendmail", f'cat > "{self.root}/mail"')

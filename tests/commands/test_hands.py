@@ -17,7 +17,7 @@ LONG_HEAD = b"@@begin_db\n@@db_spec name attr perm uid gid size\n"
 COUNTED = ("added", "removed", "changed", "left_out", *standings.COUNTS)
 NIGHT = ("o.db", "n.db")
 # A program in place of the proved one, which notes whose rights it has.
-NOTES = 'case $1 in -E) echo "$(id -u) $$" >> %s;; esac\n%s\nexec %s "$@"'
+NOTES = 'case $1 in -E) echo "$(id -u) $$" >> %s;; esac\nexec %s "$@"'
 
 
 def started(unit: str) -> list[str]:
@@ -25,11 +25,6 @@ def started(unit: str) -> list[str]:
     lines = read(f"contrib/systemd/{unit}").splitlines()
     line = next(line for line in lines if line.startswith("ExecStart="))
     return shlex.split(line.partition("=")[2])[1:]
-
-
-def long_lines() -> bytes:
-    names = (b"/m/%s%04d" % (b"x" * 250, number) for number in range(4000))
-    return b"".join(name + b" 60 100644 0 0 1\n" for name in names)
 
 
 class HandsTest(CommandTest):
@@ -105,7 +100,8 @@ class HandsTest(CommandTest):
         """The command that a mail prints makes the page of the same changes, and leaves no
         state."""
         self.prepare("--to a@b.example\n")
-        self.write("long.db", LONG_HEAD + long_lines() + b"@@end_db\n")
+        lines = (b"/m/%s%04d 60 100644 0 0 1\n" % (b"x" * 250, number) for number in range(4000))
+        self.write("long.db", LONG_HEAD + b"".join(lines) + b"@@end_db\n")
         message = self.mails(3, "--state", "of.state", "o.db", "long.db")
         shown = mail.body(message).decode().partition(" (with the options of this job):\n    ")[2]
         command = shown.replace(" \\\n      ", " ").partition(" > ")[0]
@@ -170,11 +166,7 @@ class HandsTest(CommandTest):
         os.mkdir(self.path("out"))
         os.chmod(self.path("out"), 0o777)
         os.rename(self.program, self.program + ".away")
-        self.note_users()
-
-    def note_users(self, more: str = "") -> None:
-        """The program notes whose rights it has, and perhaps does something more."""
-        text = NOTES % (self.path("out/users"), more, self.program + ".away")
+        text = NOTES % (self.path("out/users"), self.program + ".away")
         self.stub("aide", text, "libexec/aide-compare")
 
     def users(self) -> set[str]:

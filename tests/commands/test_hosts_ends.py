@@ -2,7 +2,6 @@
 it is ended half way."""
 from __future__ import annotations
 
-import contextlib
 import json
 import os
 import shutil
@@ -12,7 +11,7 @@ import subprocess
 import sys
 
 from tests.lib.program_test import slow
-from tests.lib.waiting import until
+from tests.lib.waiting import until, waits
 
 from .sandbox import CommandTest, after
 from .test_hosts_report import Hosts, database, four_hosts, line
@@ -21,14 +20,6 @@ from .test_sorting import MEASURE
 # Whoever starts the trials may ignore these signals, and the command would too.
 HEEDED = "for number in (signal.SIGINT, signal.SIGHUP, signal.SIGTERM): signal.signal(number, signal.SIG_DFL)"
 SHELL = ["sh", "-c"]
-
-
-def waits_for(process: int, name: str) -> bool:
-    """Whether a process has a file with this end of its path open."""
-    folder = "/proc/%d/fd/" % process
-    with contextlib.suppress(OSError):
-        return any(os.readlink(folder + each).endswith(name) for each in os.listdir(folder))
-    return False
 
 
 @slow
@@ -59,7 +50,8 @@ class HostsEndsTest(CommandTest):
         for number in (signal.SIGTERM, signal.SIGINT, signal.SIGHUP):
             with hosts.locked("www2"):
                 run = hosts.start(words)
-                until(lambda: waits_for(run.pid, "/www2/lock"))
+                lock = self.path("store/hosts/www2/lock")
+                until(lambda: waits(run.pid, "", lambda names: lock in names))
                 run.send_signal(number)
                 try:
                     run.communicate(timeout=30)

@@ -22,11 +22,6 @@ def idle(size: int) -> bytes:
     return OLD.replace(END, LOGS % size + END)
 
 
-def compared_of(said: Answer) -> str:
-    """The last line of a comparison of all hosts."""
-    return said.output_text.rpartition("hosts: ")[2]
-
-
 class HostsQuietTest(CommandTest):
     def prepare(self, old: bytes, new: bytes) -> Fleet:
         """A fleet whose hosts all have the same databases."""
@@ -46,7 +41,8 @@ class HostsQuietTest(CommandTest):
         fleet = self.prepare(idle(5), idle(9))
         said = fleet.compare(self.hosts)
         self.assertEqual(said.status, 4, said)
-        self.assertEqual(compared_of(said), "8 differ, 0 not compared, 0 without differences\n")
+        summary = "8 hosts: 8 differ, 0 not compared, 0 without differences\n"
+        self.assertTrue(said.output_text.endswith(summary), said)
         said = fleet.compare("-q", "--exclude-from", self.path("without"), self.hosts)
         self.assertEqual(said, Answer(b"", b"", 0), "an idle night with what is left out")
         said = fleet.compare("--exclude-from", self.path("without"), self.hosts)

@@ -133,11 +133,6 @@ def four_hosts(sandbox: CommandTest) -> Hosts:
     return hosts
 
 
-def command_in(text: str) -> str:
-    """The command at the end of a short text, which may have several lines."""
-    return text.rpartition("with their values:\n")[2].replace("\\\n", " ")
-
-
 class HostsReportTest(CommandTest):
     def test_same(self) -> None:
         """The same change is one, whatever the inodes and times are; another digest is another
@@ -208,7 +203,9 @@ class HostsReportTest(CommandTest):
         names = ("good1", "unknown", "stale", "ahead", "odd", "busy", "linked")
         hosts.compared(dict.fromkeys(names, (OLD, NEW)))
         for name, seconds in (("stale", -27 * 3600), ("ahead", 7200)):
-            self.change_state("store/states/" + name, seconds=seconds)
+            fields = json.loads(self.read("store/states/" + name))
+            fields["time"] += seconds
+            self.write("store/states/" + name, json.dumps(fields))
         self.write("store/states/odd", "status=0\n")
         os.rename(self.path("store/hosts/linked/lines"), self.path("elsewhere"))
         os.symlink(self.path("elsewhere"), self.path("store/hosts/linked/lines"))
@@ -313,7 +310,8 @@ class HostsReportTest(CommandTest):
         self.assertTrue(head.startswith("To: root\n"), head)
         self.assertIn(f"\nSubject: {title}\n", head)
         self.assertEqual(hosts.report("--format=brief").output_text, text)
-        command = command_in(self.mailed(hosts, "--max-age", "2d"))
+        text = self.mailed(hosts, "--max-age", "2d")
+        command = text.rpartition("with their values:\n")[2].replace("\\\n", " ")
         self.assertEqual(shlex.split(command)[5:-1], ["--max-age", "172800"])
         done = subprocess.run(["sh", "-c", command], capture_output=True, env=self.environment())
         listed = done.stdout.count(b" on 2 of 4 hosts: good1, good2\nadded File: /n")

@@ -73,13 +73,10 @@ class NightsTest(CommandTest):
         self.assertGreater(len(names), 6, "there are nights")
         for name in names:
             parts = read_night(name)
-            self.assertEqual(self.found_in(name, parts), wanted_of(parts), name)
-
-    def found_in(self, name: str, parts: Parts) -> Dict[bytes, str]:
-        """What the commands say of a night, by path."""
-        for side in ("old", "new"):
-            self.write(f"{side}.db", database_of(parts, side))
-        write_records(self, records_of(parts))
-        answer = self.call("aide-compare json", "old.db", "new.db")
-        self.assertIn(answer.status, range(1, 8), (f"{name} is compared", answer))
-        return standings_of(objects_of(answer), ("standing", "package"))
+            for side in ("old", "new"):
+                self.write(f"{side}.db", database_of(parts, side))
+            write_records(self, records_of(parts))
+            answer = self.call("aide-compare json", "old.db", "new.db")
+            self.assertIn(answer.status, range(1, 8), (f"{name} is compared", answer))
+            found = standings_of(objects_of(answer), ("standing", "package"))
+            self.assertEqual(found, wanted_of(parts), name)

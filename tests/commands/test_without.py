@@ -144,12 +144,6 @@ class WithoutTest(CommandTest):
         self.write("full.db", text)
         return self.open_in(self.call(JSON, *words, "empty.db", "full.db"))
 
-    def seen_between(self, old: bytes, new: bytes, *words: str) -> list[bytes]:
-        """The changes between two entries that are told."""
-        for name, entry in (("from.db", old), ("to.db", new)):
-            self.write(name, MEASURED + entry + END)
-        return self.open_in(self.call(JSON, *words, "from.db", "to.db"))
-
     def test_left_out(self) -> None:
         self.write("logs", LOGS)
         words = ["--exclude-from", "logs", "o.db", "n.db"]
@@ -286,8 +280,10 @@ class WithoutTest(CommandTest):
         for what, old, new, is_told in rows:
             with self.subTest(what):
                 changed = (new or old).split(b" ")[:1] if is_told else []
-                seen = self.seen_between(old, new, "--exclude-from", "list")
-                self.assertEqual(seen, changed)
+                for name, entry in (("from.db", old), ("to.db", new)):
+                    self.write(name, MEASURED + entry + END)
+                answer = self.call(JSON, "--exclude-from", "list", "from.db", "to.db")
+                self.assertEqual(self.open_in(answer), changed)
 
     def test_capabilities(self) -> None:
         """AIDE takes the bit of capabilities out of the entry of each file that has none. So a line

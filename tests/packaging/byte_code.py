@@ -22,10 +22,6 @@ def tag() -> str:
     return subprocess.run(words, stdout=subprocess.PIPE, check=True).stdout.decode().strip()
 
 
-def is_byte_code(path: str) -> bool:
-    return "/__pycache__/" in "/" + path
-
-
 def wanted_of(found: dict[str, Any]) -> dict[str, bytes]:
     """The byte code that belongs to the modules of a tree, and the sum of each module in it."""
     wanted = {}
@@ -42,7 +38,7 @@ def holds_code(trial: InstallTest, name: str, folder: str, private: str) -> None
     for its owner only."""
     found = tree(folder)
     wanted = wanted_of(found)
-    given = {path: data for path, (_, data) in files(found).items() if is_byte_code(path)}
+    given = {path: data for path, (_, data) in files(found).items() if "__pycache__/" in path}
     trial.assertEqual(
         set(given),
         set(wanted),

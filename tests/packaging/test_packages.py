@@ -8,7 +8,6 @@ import io
 import os
 import re
 import shutil
-import subprocess
 import tarfile
 from typing import Any
 
@@ -128,16 +127,11 @@ def try_debian(trial: InstallTest, path: str, time: int) -> None:
     named |= set(map(name_in_package, without_manifest(trial)))
     trial.assertEqual(kept.keys() ^ named, set(), "the package has what is installed")
     try_texts(trial, texts(found), kept)
-    with tarfile.open(fileobj=io.BytesIO(whole_of(path))) as archive:
+    whole = trial.run_words(["dpkg-deb", "--fsys-tarfile", path]).output
+    with tarfile.open(fileobj=io.BytesIO(whole)) as archive:
         trial.assertEqual(owners_and_times(archive), {(0, 0, time)})
         modes = {one.mode for one in archive.getmembers() if not one.issym()}
     trial.assertEqual(modes, {0o755, 0o644}, "the permissions in the package")
-
-
-def whole_of(path: str) -> bytes:
-    """The files of a Debian package, as a tarball."""
-    words = ["dpkg-deb", "--fsys-tarfile", path]
-    return subprocess.run(words, stdout=subprocess.PIPE, check=True).stdout
 
 
 def try_texts(trial: InstallTest, found: dict[str, str], kept: dict[str, bytes]) -> None:
