@@ -6,6 +6,7 @@ from typing import Any
 from tests.commands.units.calls import ModuleTest
 
 from aide_compare.lines.change import Change, Counts, Standing, change_of
+from aide_compare.lines.reader import ODD
 
 LINE: dict[str, Any] = {
     "path_hex": "2fff",
@@ -60,10 +61,12 @@ class ChangesTest(ModuleTest):
             {"same_as": "new"},
             {"old": {"Size": [1]}},
             {"new": {"Size": True}},
+            {"new": ["Size"]},
+            {"old": {"ACL_hex": "0"}},
             {"old": {"Inode": "x"}},
         ]
         for more in rows:
-            with self.subTest(more=more), self.assertRaises((ValueError, KeyError)):
+            with self.subTest(more=more), self.assertRaises(ODD):
                 change_of({**LINE, **more})
 
     def test_counts(self) -> None:
