@@ -83,7 +83,8 @@ SHOWN = number_of(ENTRY)
 def upgrade() -> Host:
     """A night on which packages were upgraded, and somebody was at work: an entry of each severity
     and kind, and 260 of packages."""
-    host, files = Host(), {}
+    host = Host()
+    files: Dict[str, Dict[bytes, bytes]] = {}
     for number in range(260):
         folder = list(FOLDERS)[number % len(FOLDERS)]
         path, old, new = b"%s/item-%03d" % (folder, number), b"%d" % number, b"two %d" % number
@@ -365,9 +366,9 @@ class BrowserTest(CommandTest):
         """The processor's time that a page of many changes takes to be there, and to answer."""
         host = Host()
         for number in range(CHANGES):
-            path = b"/usr/lib/package-%04d/file-%03d.so" % (number // 200, number % 200)
-            host.old.file(path, b"%d" % number, mtime=time_of(FIRST))
-            host.new.file(path, b"two %d" % number, mtime=time_of(SECOND))
+            name = b"/usr/lib/package-%04d/file-%03d.so" % (number // 200, number % 200)
+            host.old.file(name, b"%d" % number, mtime=time_of(FIRST))
+            host.new.file(name, b"two %d" % number, mtime=time_of(SECOND))
         path = self.page(host)
         self.assertLess(os.path.getsize(path), MOST_BYTES)
         self.browser.open("/proc/version")

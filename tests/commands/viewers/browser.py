@@ -11,7 +11,7 @@ import time
 from typing import Any
 
 NAMES = ["chromium", "chromium-browser", "google-chrome"]
-CHROMIUM = next(filter(None, map(shutil.which, NAMES)), None)
+CHROMIUM: str = next(filter(None, map(shutil.which, NAMES)), "")
 OPTIONS = (
     "--headless=new --no-sandbox --disable-gpu --hide-scrollbars --remote-debugging-pipe"
     " --no-first-run".split()
@@ -34,7 +34,7 @@ class Browser:
         # The browser reads its orders from 3 and answers on 4.
         inner = [fcntl.fcntl(end, fcntl.F_DUPFD_CLOEXEC, 10) for end in (inner_read, inner_write)]
         self.process = subprocess.Popen(
-            [CHROMIUM or "", *OPTIONS, "--user-data-dir=" + self.folder, "about:blank"],
+            [CHROMIUM, *OPTIONS, "--user-data-dir=" + self.folder, "about:blank"],
             stdin=subprocess.DEVNULL,
             stdout=subprocess.DEVNULL,
             stderr=subprocess.DEVNULL,
@@ -91,7 +91,7 @@ class Browser:
             "Runtime.evaluate", expression=expression, returnByValue=True, awaitPromise=True
         )
         if "exceptionDetails" in answer:
-            raise AssertionError("%s: %s" % (expression, json.dumps(answer["exceptionDetails"])[:300]))
+            raise AssertionError(f"{expression}: {answer['exceptionDetails']!r:.300}")
         return answer["result"].get("value")
 
     def worked(self) -> float:
