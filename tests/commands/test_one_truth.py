@@ -9,18 +9,7 @@ import shutil
 
 from tests.lib.scratch import read
 from tests.commands import mail
-from tests.commands.sandbox import CommandTest
-from tests.commands.signed_archive import (
-    CONFIGURATION,
-    HOME,
-    PROGRAMS,
-    TOOL,
-    Place,
-    keep_as_apt,
-    make_keys,
-    stop_agents,
-    upgraded,
-)
+from tests.commands.signed_archive import HOME, TOOL, ArchiveCase, keep_as_apt
 from tests.commands.viewers.pages import data_in
 
 PAIR = ("base/aide.db", "base/aide.db.new")
@@ -42,24 +31,17 @@ def started(path: str, name: str) -> list[str]:
     return shlex.split(line.partition("=")[2])[1:]
 
 
-class OneTruthTest(CommandTest):
+class OneTruthTest(ArchiveCase):
     def setUp(self) -> None:
         super().setUp()
-        self.needs(*PROGRAMS)
         mail.prepare(self)
-        make_keys(self)
-        self.addCleanup(stop_agents, self)
-        self.place = upgraded(self)
         self.place.sign()
         keep_as_apt(self, self.place)
         self.place.new.file(LEFT_OUT, b"a log\n")
         self.write("etc/without", os.fsdecode(LEFT_OUT) + "\n")
         databases = " ".join(map(self.path, PAIR))
         self.write("etc/defaults", f"--databases {databases}\n{self.below(DEFAULTS)}")
-        self.put(self.place)
-
-    def put(self, place: Place) -> None:
-        for path, night in zip(PAIR, (place.old, place.new)):
+        for path, night in zip(PAIR, (self.place.old, self.place.new)):
             self.write(path, night.database())
 
     def below(self, text: str) -> str:
@@ -165,19 +147,3 @@ class OneTruthTest(CommandTest):
         answer = self.call("aide-compare")
         self.assertIn(b"signed.db.old yet, so no trusted pair accounts for a change", answer.errors)
         self.assertRegex(answer.output, rb"\A1\d open ")
-
-    def test_command_line(self) -> None:
-        """An option of the command line replaces that of the file, and a default is not given
-        twice."""
-        self.make_pair()
-        trusted = ("--trusted", *PAIR[:1], self.path("base/signed.db"))
-        for words in (trusted, ("--state", "own.state"), ("--max-age", "1h"), ("-A", "\n")):
-            answer = self.call("aide-compare", *words)
-            self.assertRegex(answer.output, rb"\A4 open ", (words, answer))
-        self.assertEqual(self.state("own.state")["open"], "4")
-        answer = self.call("aide-compare", "--trusted", *PAIR[:1], *PAIR[:1])
-        self.assertRegex(answer.output, rb"\A1\d open ")
-        self.refused(15, b"is given twice", "aide-compare", *trusted, *trusted)
-        answer = self.call("aide-compare", "--no-defaults", *PAIR)
-        self.assertRegex(answer.output, rb"\A1\d open ")
-        self.assertIn(CONFIGURATION, answer.output)
