@@ -5,11 +5,12 @@ from __future__ import annotations
 import json
 import os
 import re
+import unittest
 
 from tests.commands import mail
 from tests.commands.made_up import Host, Package, standings_of, time_of
 from tests.commands.sandbox import CommandTest
-from tests.commands.viewers.pages import data_in
+from tests.commands.viewers.pages import HAS_NODE, data_in, seen
 from tests.lib.answer import Answer
 
 TOOL, NAGIOS = "aide-compare", "check_aide_compare"
@@ -54,6 +55,18 @@ COUNTS = {
     "left_out": "0",
     "told_status": "7",
 }
+# What people read of the night, in this order. The order of paths is another one.
+ORDER = [
+    "/usr/local/bin/p",
+    "/etc/passwd",
+    "/etc/ssh/a.conf",
+    "/etc/cron.d/z",
+    "/usr/bin/ls",
+    "/home/anna/.ssh/a",
+    "/opt/z",
+    "/opt/a",
+    "/var/log/a",
+]
 
 
 def sample() -> Host:
@@ -85,6 +98,25 @@ def recorded() -> Host:
     host.new.file(b"/usr/lib/tool", TWO)
     host.packages.append(Package("tool", "2", {b"/usr/lib/tool": TWO}))
     return host
+
+
+def night_of_all() -> Host:
+    """A night with a change for each of them."""
+    host = Host()
+    for path in (b"/etc/passwd", b"/usr/bin/ls", b"/opt/z"):
+        mode = 0o100755 if path == b"/usr/bin/ls" else 0o100644
+        host.old.file(path, ONE, mode)
+        host.new.file(path, TWO, mode)
+    host.new.file(b"/usr/local/bin/p", TWO, 0o104755)
+    host.new.file(b"/home/anna/.ssh/a", TWO, uid=1000)
+    for path in (b"/etc/ssh/a.conf", b"/etc/cron.d/z", b"/opt/a", b"/var/log/a"):
+        host.new.file(path, TWO)
+    return host
+
+
+def named(text: str) -> list[str]:
+    """Those of the paths that the lines of a text name, in their order."""
+    return [path for path in re.findall(r"(/[a-z./]+)", text) if path in ORDER]
 
 
 def prepare(sandbox: CommandTest) -> None:
@@ -282,3 +314,21 @@ class StandingsTest(mail.MailTest):
             self.assertEqual(len(text.split("\n")), 6, text)
             self.assertTrue(text.isascii() and text.replace("\n", "").isprintable(), text)
             self.assertIn("\\", text)
+
+
+class OrderTest(mail.MailTest):
+    """One order in all that people read: a set-ID bit comes before a key, a key before a program, and
+    each of these before what is removed or of others, wherever their paths are."""
+
+    def test_brief_and_mail(self) -> None:
+        host = night_of_all()
+        self.assertEqual(named(host.brief(self)), ORDER)
+        mail.call(self, "host-old.db", "host-new.db")
+        self.assertEqual(named(mail.body(mail.sent(self)).decode()), ORDER)
+
+    @unittest.skipUnless(HAS_NODE, "not installed: node")
+    def test_page(self) -> None:
+        night_of_all().write(self)
+        page = self.call("aide-compare page", "host-old.db", "host-new.db").output
+        paths = [entry["path"] for entry in seen(page)["entries"]]
+        self.assertEqual(named(" ".join(paths)), ORDER)
