@@ -1,20 +1,17 @@
 """Finds the files of specs/ that say what the public calls promise.
 
 From the contracts of all public functions and traits this follows each name to its definition, and
-from there to the definitions that it uses. Prints a line for each crate: its name and the files of
-its specs/ that were met.
+from there to the definitions that it uses.
 """
 from __future__ import annotations
 
 import glob
 import os
 import re
-import sys
 from collections.abc import Callable
 
-from tools.lib.arguments import parser_of
 from tools.source.checker import TOP, below, libraries
-from tools.source.definitions import WORD, Definitions, crates, imports_of
+from tools.source.definitions import WORD, Definitions, imports_of
 
 # What is built of the crates, and whose calls are promised to others.
 PROGRAMS = ("aide", "aide_lines", "aide_headline")
@@ -110,16 +107,3 @@ def met(
                     first += definitions.named_by(words, imports_of(text))[0]
     seen = definitions.reached(first)[0]
     return {crate: sorted({file for other, file, _ in seen if other == crate}) for crate in names}
-
-
-def main() -> int:
-    parser_of("tools.source.public_specs", __doc__).parse_args()
-    found = met(crates())
-    for crate, files in found.items():
-        if files:
-            print("%s: %s" % (crate, " ".join(files)))
-    return 0 if any(found.values()) else 1
-
-
-if __name__ == "__main__":
-    sys.exit(main())
