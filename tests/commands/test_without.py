@@ -60,9 +60,9 @@ MEASURED = b"@@begin_db\n@@db_spec name attr perm uid size capabilities\n"
 
 # What the shipped list leaves out: logs, locks of Postfix, and what programs note below /run.
 HIDDEN = """
-    /var/log/syslog /var/log/apt/history.log /var/log/nginx/access.log.1 /var/log/syslog.2.gz
-    /var/log/exim4/mainlog /var/log/exim4/paniclog /var/log/exim4/rejectlog.1 /var/log/cups/access_log
-    /var/log/samba/log.smbd /var/log/sysstat/sa27 /var/log/postgresql/x.log /var/log/journal/a/system.journal
+    /var/log/syslog /var/log/apt/history.log /var/log/journal/a/system.journal
+    /var/lib/logrotate/status /var/lib/apt/daily_lock /var/lib/systemd/timers/stamp-man-db.timer
+    /var/spool/dma /var/spool/dma/flush /run/lock/x/y /run/x.lock /run/motd.dynamic /run/x.reboot
     /var/lib/aide/aide.db /var/lib/aide-compare/daily/state /var/lib/apt/periodic/update-stamp
     /var/cache/man/index.db /var/cache/man/pt_BR/index.db /var/cache/apt/pkgcache.bin
     /var/cache/ldconfig/aux-cache /var/cache/fontconfig/3830d5c3ddfd-le64.cache-8
@@ -92,6 +92,7 @@ SEEN = """
     /var/cache/apparmor/26b63962.0/usr.sbin.tcpdump /var/cache/bind/db.example /var/cache/z.sh
     /var/cache/dictionaries-common/emacsen-ispell-default.el /var/cache/debconf/config.dat
     /var/cache/man/.forward /var/cache/man/.ssh/authorized_keys /var/cache/man/de/.x/index.db
+    /var/cache/man/de/x /run/sudo/ts/x /var/spool/dma/x
     /var/backups/.forward /var/backups/shadow.bak /var/backups/.ssh/authorized_keys
     /var/lib/aide-compare/hosts/www/aide.db /var/lib/aide-compare/daily
     /var/cache/apt/pkgcache.bin.x /run/reboot-required.d/x /var/spool/postfix/pid
