@@ -6,13 +6,13 @@ import json
 import os
 import shutil
 import signal
-import socket
 import subprocess
 import sys
 
 from tests.lib.program_test import slow
 from tests.lib.waiting import until, waits
 
+from .mail import logging
 from .sandbox import CommandTest, after
 from .test_hosts_report import Hosts, database, four_hosts, line
 from .test_sorting import MEASURE
@@ -90,13 +90,9 @@ class HostsEndsTest(CommandTest):
         hosts = four_hosts(self)
         self.set_names("mail.sending", LOG=self.path("log"), JOURNAL="/no/", MAILERS=())
         self.after_import("mail.sending", "os.environ['PATH'] = '/nowhere'\n")
-        with socket.socket(socket.AF_UNIX, socket.SOCK_DGRAM) as log:
-            log.bind(self.path("log"))
-            log.settimeout(5)
+        with logging(self) as lines:
             said = hosts.report("--to", "root")
-            line_of_log = log.recv(10000)
         self.assertEqual(said.status, 18, said)
         self.assertIn("cannot find sendmail", said.error_text)
-        self.assertTrue(line_of_log.startswith(b"<33>"), line_of_log)
-        wanted = b"; aide on 5 hosts: 4 differ, 0 not compared"
-        self.assertTrue(line_of_log.endswith(wanted), line_of_log)
+        self.assertTrue(lines[0].startswith(b"<33>"), lines)
+        self.assertTrue(lines[0].endswith(b"; aide on 5 hosts: 4 differ, 0 not compared"), lines)
