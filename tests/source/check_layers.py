@@ -8,12 +8,13 @@ failed`.
 from __future__ import annotations
 
 import ast
+import graphlib
 import sys
-from collections.abc import Iterator
 
 from tests.lib.scratch import read
 from tests.lib.tally import Tally
 from tests.source.check_docs import tracked
+from tools.gate.affected import Module
 from tools.lib.arguments import parser_of
 
 PACKAGE = "aide_compare"
@@ -32,22 +33,6 @@ def modules() -> dict[str, str]:
     return found
 
 
-def imports(tree: ast.Module, names: dict[str, str]) -> Iterator[str]:
-    """The modules of the package that a module imports, here and in its functions."""
-    for node in ast.walk(tree):
-        if isinstance(node, ast.Import):
-            imported = [alias.name for alias in node.names]
-        elif isinstance(node, ast.ImportFrom) and node.module and not node.level:
-            imported = [f"{node.module}.{alias.name}" for alias in node.names]
-            imported.append(node.module)
-        else:
-            continue
-        for name in imported:
-            inner = name[len(PACKAGE) + 1 :]
-            if name.startswith(PACKAGE + ".") and inner in names:
-                yield inner
-
-
 def layer_of(name: str) -> str:
     return name.partition(".")[0]
 
@@ -63,30 +48,26 @@ def upward(name: str, others: list[str]) -> list[str]:
 
 def circle(graph: dict[str, list[str]]) -> list[str]:
     """The names of modules that import each other in a circle, or nothing."""
-    left = {name: set(others) - {name} for name, others in graph.items()}
-    while left:
-        free = [name for name, others in left.items() if not others & left.keys()]
-        if not free:
-            return sorted(left)
-        for name in free:
-            del left[name]
+    try:
+        graphlib.TopologicalSorter(graph).prepare()
+    except graphlib.CycleError as error:
+        return list(error.args[1])
     return []
 
 
 def main() -> int:
     parser_of("tests.source.check_layers", __doc__).parse_args()
     found = modules()
-    trees = {name: ast.parse(read(path), path) for name, path in found.items()}
     unknown = sorted(name for name in found if layer_of(name) not in LAYERS)
+    imports = {name: Module(path).imported for name, path in found.items() if name not in unknown}
     graph = {
-        name: sorted(set(imports(tree, found)) - {name})
-        for name, tree in trees.items()
-        if name not in unknown
+        name: [other for other in found if other != name and f"{PACKAGE}.{other}" in imported]
+        for name, imported in imports.items()
     }
     tally = Tally()
     tally.add("modules outside the layers", [f"{found[name]} is in no layer" for name in unknown])
     for layer in LAYERS:
-        has_sentence = layer in trees and ast.get_docstring(trees[layer])
+        has_sentence = layer in found and ast.get_docstring(ast.parse(read(found[layer])))
         tally.add("the folder " + layer, [] if has_sentence else ["no sentence in its __init__.py"])
     for name, others in sorted(graph.items()):
         tally.add("imports of " + name, upward(name, others))

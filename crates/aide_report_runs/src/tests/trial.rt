@@ -61,8 +61,8 @@ impl<'a> Trial<'a> {
         }
     }
 
-    /// Whether these bytes may have been written before a run ended with this fault. They are a beginning of the report.
-    /// If a database has changed since something was written, they begin with what is said first.
+    /// Whether these bytes may have been written before a run ended with this fault. They are a beginning of the
+    /// report. If a database has changed since something was written, they begin with what is said first.
     fn may_have_sent(self, bytes: &[u8], fault: RunFault, openings: u64) -> bool {
         match fault {
             RunFault::Changed(_) if openings > SILENT_OPENINGS => {

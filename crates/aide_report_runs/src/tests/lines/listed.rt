@@ -8,8 +8,8 @@ use aide_report::MemorySink;
 use std::alloc::Global;
 use std::process::Abort;
 
-/// A list, two databases that differ at one path, and what their lines tell of it: the line of the list, or that no line of
-/// it leaves the change out.
+/// A list, two databases that differ at one path, and what their lines tell of it: the line of the list, or that no
+/// line of it leaves the change out.
 #[derive(Clone, Copy)]
 struct Row {
     list: &'static [u8],
