@@ -1,1 +1,1 @@
-"""Checks of the source: its layout, its pages, its must-fail edits."""
+"""Checks of the source: its layout, its pages, its language."""

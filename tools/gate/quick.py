@@ -27,7 +27,6 @@ PYTHON = ("commands/", "tools/", "tests/", "bench/")
 # Which files each check of files reads, as beginnings and endings of their paths.
 READS: dict[str, tuple[tuple[str, ...], tuple[str, ...]]] = {
     "tests.source.check_tools": (("tools/", "tests/", "bench/", "packaging/"), ("",)),
-    "tests.source.check_edits": (("crates/",), (".rt", ".edit")),
     "tests.source.check_docs": (("",), (".md", ".1", ".rt", ".antt")),
     "tests.source.check_layout": (("crates/",), ("",)),
     "tests.source.check_layers": (("commands/",), (".py",)),

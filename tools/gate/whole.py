@@ -15,8 +15,8 @@ from tools.gate.counting import Count, Part
 from tools.gate.second_builds import NEWER
 from tools.lib.arguments import parser_of
 
-CHECKS = ("check_tools", "check_edits", "check_docs", "check_layout", "check_layers")
-FILES: list[Part] = [(f"tests.source.{name}",) for name in (*CHECKS, "check_python")]
+CHECKS = ("check_tools", "check_docs", "check_layout", "check_layers", "check_python")
+FILES: list[Part] = [(f"tests.source.{name}",) for name in CHECKS]
 PROOFS: Part = ("rt", "ci")
 # What builds the programs for newer processors too, over the libraries that were proved.
 SECOND_BUILDS: Part = ("tools.gate.second_builds", "--ran-now")

@@ -1,2 +1,2 @@
-"""Tools for the source: its layout, must-fail edits, pages, and the definitions that public
+"""Tools for the source: its crates, pages, and the definitions that public
 contracts cite."""
