@@ -1,24 +1,17 @@
-"""Tries the built program over configurations: refused ones, those that are only just allowed, and
-random ones.
+"""Tries the built program over configurations: refused ones, and those that are only just allowed.
 
 The tables in configurations/ say where and why a configuration is refused, or what it sets. The
-definitions have to say the same. Of random configurations with blocks and variables the definitions
-alone know the answer. The last line is 'N passed, M failed'.
+definitions have to say the same. Random sessions have random configurations.
 """
 from __future__ import annotations
 
 import base64
-import collections
 import re
 from typing import Any
 
 from tests.lib.answer import Answer, run, shown
-from tests.lib.program_test import new_seed
-from tests.oracle.files import wanted
 from tests.program.configurations import accepted, limits, names, refused
-from tests.program.configurations.random_blocks import random_texts
 from tests.oracle.attributes import ATTRIBUTES
-from tests.oracle.session import CONFIGURATION_WORDS
 from tests.program.real_files.folder import NEW, OLD, FolderTest
 
 DIFFERENT = b"AIDE found differences between the two databases.\n"
@@ -39,27 +32,6 @@ VALUES = {
     "time": base64.b64encode(b"7"),
     "link": b"x",
     "opaque": b"x",
-}
-
-# What random texts are refused for: in so many configurations each of these has to come.
-ENOUGH = 1000
-EXPECTED = {
-    CONFIGURATION_WORDS[kind]
-    for kind in (
-        "BadDirective",
-        "LeftOut",
-        "StrayElse",
-        "StrayEndif",
-        "MissingEndif",
-        "BadName",
-        "UnknownAttribute",
-        "BadExpression",
-        "BadValue",
-        "BadUrl",
-        "BadLine",
-        "NoOldDatabase",
-        "NoNewDatabase",
-    )
 }
 
 
@@ -234,21 +206,3 @@ class ConfigurationsTest(ConfigurationTest):
         for before, text, side, path in accepted.PATHS:
             said = b"aide: cannot open the %s database %s\n" % (side, path)
             self.check_words(shown(text), self.accepted(text, before), Answer(b"", said, 18))
-
-    def test_random(self) -> None:
-        """Random texts, checked and compared."""
-        seed = new_seed()
-        seen: collections.Counter[str | None] = collections.Counter()
-        self.pair(OLD, NEW)
-        for number in range(ENOUGH):
-            before, text, after = random_texts(seed, number)
-            label = "seed %d, texts %d" % (seed, number)
-            for words in (
-                self.words(b"-D", text, before, after),
-                self.words(b"-E", text, before, after),
-                self.compared(text, before, after),
-            ):
-                want = wanted(words)
-                self.check(label, run(self.program, words), want)
-                seen[want.errors.decode().strip().rpartition(": ")[2]] += 1
-        self.add("what was seen", ["never: " + words for words in sorted(EXPECTED - set(seen))])

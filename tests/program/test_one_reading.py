@@ -11,24 +11,24 @@ import random
 import subprocess
 import threading
 import time
-from collections.abc import Callable, Iterator, Sequence
-from typing import List
+from collections.abc import Callable, Sequence
 
 from tests.lib.answer import Answer, difference, run
 from tests.lib.program_test import new_seed, slow
 from tests.lib.tally import side_by_side
 from tests.oracle.files import wanted_lines
+from tests.program.random_texts.databases import broken
 from tests.program.real_files.folder import EMPTY, NEW, OLD, SKIPPING, Folder, names
 from tests.program.real_files.test_fifos import fed
 from tests.program.test_failed_calls import FILES
 from tests.program.lines_program import LinesProgramTest, faults_of_lines
 
 HEAD = b"@@begin_db\n@@db_spec name perm lname mtime\n"
-END = b"@@end_db"
 LONG = b"x" * 300  # So that some lines go out before most faults.
 COUNT = 120
-REPEATED = 4  # So often two ways to break a pair are tried.
-FOURS = 80
+TRIALS = 280
+# What is done to a text that breaks it.
+WAYS = ("cut", "less", "more", "exchange", "name", "stray")
 RUNS = 60
 ENTRIES = 3000
 # So many bytes are in a pipe that nobody reads.
@@ -42,43 +42,14 @@ def text_of(pick: random.Random, later: int) -> list[bytes]:
         target = pick.choice((b"", b"a")) if later else b""
         if pick.random() < 0.9:
             lines.append(b"/%04d 120777 %s%s %d" % (number, LONG, target, later))
-    return [*lines, END, b""]
+    return [*lines, b"@@end_db", b""]
 
 
-def cut_line(lines: list[bytes], at: int) -> None:
-    lines[at] = lines[at][: len(lines[at]) // 2]
-
-
-def make_nonsense(lines: list[bytes], at: int) -> None:
-    lines[at] = b"x y z"
-
-
-def exchange(lines: list[bytes], at: int) -> None:
-    lines[at - 1 : at + 1] = reversed(lines[at - 1 : at + 1])
-
-
-def cut(lines: list[bytes], at: int) -> None:
-    del lines[at:]
-
-
-def end_early(lines: list[bytes], at: int) -> None:
-    lines[at] = END
-
-
-def add_field(lines: list[bytes], at: int) -> None:
-    lines[at] += b" more"
-
-
-Way = Callable[[List[bytes], int], None]
-WAYS: list[Way] = [cut_line, make_nonsense, exchange, cut, end_early, add_field]
-
-
-def broken(pick: random.Random, lines: list[bytes], way: Way | None) -> bytes:
-    """A text whose lines were broken in a way, if there is one."""
-    lines = list(lines)
-    if way is not None:
-        way(lines, pick.randrange(1, len(lines) - 1))
-    return b"\n".join(lines)
+def broken_text(pick: random.Random, later: int) -> bytes:
+    """The text of a database, to which something is done now and then."""
+    lines = text_of(pick, later)
+    text = b"\n".join(lines)
+    return broken(pick, [], lines, text, pick.choice(WAYS)) if pick.random() < 0.4 else text
 
 
 def put(folder: Folder, texts: Sequence[bytes | None]) -> list[bytes]:
@@ -92,14 +63,6 @@ def put(folder: Folder, texts: Sequence[bytes | None]) -> list[bytes]:
         else:
             folder.write(name, text)
     return folder.words_beside() if len(texts) > 2 else folder.words()
-
-
-def ways_of_pairs() -> Iterator[tuple[int, tuple[Way | None, Way | None]]]:
-    """Each two ways to break both sides, some times, and each way to leave out a side."""
-    for old_way in [None, *WAYS]:
-        for new_way in [None, *WAYS]:
-            for number in range(REPEATED):
-                yield number, (old_way, new_way)
 
 
 def read_slowly(program: bytes, words: list[bytes], at_first: Callable[[], None]) -> Answer:
@@ -183,41 +146,25 @@ class OneReadingTest(LinesProgramTest):
         return answers
 
     @slow
-    def test_broken_pairs(self) -> None:
-        """Pairs of which either or both sides are broken in one of six ways, or are missing."""
+    def test_broken(self) -> None:
+        """Pairs, half of them beside a trusted pair, of which any database is broken or missing."""
         seed = new_seed()
         texts: list[list[bytes | None]] = []
-        for number, ways in ways_of_pairs():
-            pick = random.Random(f"{seed} {number} {ways}")
-            lines = [text_of(pick, later) for later in range(2)]
-            texts.append([broken(pick, side, way) for side, way in zip(lines, ways)])
-        whole, fault = b"\n".join(text_of(random.Random(1), 0)), HEAD + b"x y z\n"
-        texts += [[None, whole], [whole, None], [None, None], [fault, None]]
-        answers = self.tried(f"seed {seed}", texts)
-        self.holds("no output", all(not answer.output for answer in answers[-4:]), answers[-4:])
-        begun = [answer for answer in answers if answer.status > 7 and answer.output]
-        self.holds("lines before a fault", len(begun) > 20, len(begun))
-        self.holds("sound pairs", sum(answer.status < 8 for answer in answers) >= REPEATED)
-
-    @slow
-    def test_broken_fours(self) -> None:
-        """The same with a trusted pair: any of four databases may be broken or missing."""
-        seed = new_seed()
-        texts = []
-        for number in range(FOURS):
+        for number in range(TRIALS):
             pick = random.Random(f"{seed} {number}")
-            four: list[bytes | None] = []
-            for at in range(4):
-                way = pick.choice(WAYS) if pick.random() < 0.3 else None
-                four.append(broken(pick, text_of(pick, at % 2), way))
+            texts.append([broken_text(pick, at % 2) for at in range(2 + number % 2 * 2)])
             if pick.random() < 0.1:
-                four[pick.randrange(4)] = None
-            texts.append(four)
+                texts[-1][pick.randrange(len(texts[-1]))] = None
         answers = self.tried(f"seed {seed}", texts)
+        for answer, given in zip(answers, texts):
+            self.holds("no output without a database", None not in given or not answer.output)
         for name in FILES:
-            words = b"aide: %s database" % name.replace("_", " ").encode()
+            words = b"aide: %s database:" % name.replace("_", " ").encode()
             count = sum(answer.errors.startswith(words) for answer in answers)
             self.holds("faults of " + name, count, count)
+        begun = sum(answer.status > 7 and answer.output != b"" for answer in answers)
+        self.holds("lines before a fault", begun > 20, begun)
+        self.holds("sound databases", sum(answer.status < 8 for answer in answers) > 20)
 
     def test_openings(self) -> None:
         """Through FIFOs that can be opened once. Another text at a second opening is never read."""

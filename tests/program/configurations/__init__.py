@@ -1,1 +1,1 @@
-"""Configurations with what is to be said of them, and random ones."""
+"""Configurations with what is to be said of them."""
