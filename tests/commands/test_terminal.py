@@ -2,7 +2,7 @@
 from __future__ import annotations
 
 import subprocess
-from typing import Tuple
+from typing import Any, Tuple
 
 from . import test_standings as standings
 from .sandbox import CommandTest
@@ -20,7 +20,7 @@ class TerminalTest(CommandTest):
     def on_terminal(self, *words: str, output: bool = True) -> Seen:
         """The status, and what a terminal gets; without `output` only standard error is one."""
         with open(self.path("out"), "wb") as file:
-            streams = {} if output else {"stdout": file}
+            streams: dict[str, Any] = {} if output else {"stdout": file}
             terminal = self.terminal(TOOL, *words, stdin=subprocess.DEVNULL, **streams)
         return terminal.end()
 
