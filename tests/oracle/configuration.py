@@ -80,8 +80,8 @@ WORD = re.compile(rb"[A-Za-z0-9_]{1,64}")
 REFERENCE = re.compile(rb"@@\{([^}]*)\}", re.DOTALL)
 
 
-class Said(NamedTuple):
-    """What a line says."""
+class Mark(NamedTuple):
+    """A line that says something, and whether it is used."""
 
     # O, D or C where it opens, divides or closes a block.
     block: str
@@ -89,16 +89,7 @@ class Said(NamedTuple):
     first: bool | None
     # ('define', name, value), ('undef', name), ('option', name, value) or ('group', name, set).
     says: tuple[Any, ...] | None
-
-
-class Mark(NamedTuple):
-    """A line that says something, and whether it is used."""
-
-    text: str
-    block: str
-    used: bool
-    first: bool | None
-    says: tuple[Any, ...] | None
+    used: bool = True
 
 
 class Fault(NamedTuple):
@@ -193,17 +184,17 @@ def judge_name(name: bytes) -> None:
 
 def open_block(
     word: bytes, rest: bytes, used: bool, around: list[Around], marks: list[Mark]
-) -> Said:
+) -> Mark:
     name, wanted = condition_of(word, rest) if used else (b"", True)
     if len(around) + 1 > DEPTH_LIMIT:
         raise Refused("TooDeep")
     if not used:
-        return Said("O", None, None)
+        return Mark("O", None, None, used)
     judge_name(name)
-    return Said("O", (name in variables_before(marks)) == wanted, None)
+    return Mark("O", (name in variables_before(marks)) == wanted, None)
 
 
-def define(rest: bytes, marks: list[Mark]) -> Said:
+def define(rest: bytes, marks: list[Mark]) -> Mark:
     name = re.split(rb"[ \t]", rest, maxsplit=1)[0]
     judge_name(name)
     value = expanded(rest[len(name) :].strip(BLANKS), marks)
@@ -212,10 +203,10 @@ def define(rest: bytes, marks: list[Mark]) -> Said:
     variables = variables_before(marks)
     if name not in variables and len(variables) >= COUNT_LIMIT:
         raise Refused("TooMany")
-    return Said("", None, ("define", name, value))
+    return Mark("", None, ("define", name, value))
 
 
-def read_directive(line: bytes, used: bool, around: list[Around], marks: list[Mark]) -> Said | None:
+def read_directive(line: bytes, used: bool, around: list[Around], marks: list[Mark]) -> Mark | None:
     """What a line that begins with @@ says; of an unused one the blocks alone."""
     word, rest = word_and_rest(line)
     if word in (b"ifdef", b"ifndef", b"if"):
@@ -223,18 +214,18 @@ def read_directive(line: bytes, used: bool, around: list[Around], marks: list[Ma
     if word == b"else":
         if not around or around[-1][1]:
             raise Refused("StrayElse")
-        return Said("D", None, None)
+        return Mark("D", None, None, used)
     if word == b"endif":
         if not around:
             raise Refused("StrayEndif")
-        return Said("C", None, None)
+        return Mark("C", None, None, used)
     if not used:
         return judge_word(word) if word.startswith(b"if") else None
     if word == b"define":
         return define(rest, marks)
     if word == b"undef":
         judge_name(rest)
-        return Said("", None, ("undef", rest))
+        return Mark("", None, ("undef", rest))
     return judge_word(word)
 
 
@@ -266,16 +257,16 @@ def set_of(text: bytes, marks: list[Mark]) -> frozenset[str]:
     return meaning_of(text, groups)
 
 
-def read_option(name: str, value: bytes, marks: list[Mark]) -> Said:
+def read_option(name: str, value: bytes, marks: list[Mark]) -> Mark:
     """The value of an option."""
     if value == b"":
         raise Refused("BadValue")
     if name in OLDER_OPTIONS or (name, value) == ("report_format", b"json"):
         raise Refused("LeftOut")
     if name in URL_OPTIONS:
-        return Said("", None, ("option", URL_OPTIONS[name], path_of_url(value)))
+        return Mark("", None, ("option", URL_OPTIONS[name], path_of_url(value)))
     if name in SET_OPTIONS:
-        return Said("", None, ("option", name, set_of(value, marks)))
+        return Mark("", None, ("option", name, set_of(value, marks)))
     text = value.decode("latin-1")
     if (
         name in BOOL_OPTIONS
@@ -286,10 +277,10 @@ def read_option(name: str, value: bytes, marks: list[Mark]) -> Said:
         and text != "plain"
     ):
         raise Refused("BadValue")
-    return Said("", None, ("option", name, BOOLS[value] if name in BOOL_OPTIONS else text))
+    return Mark("", None, ("option", name, BOOLS[value] if name in BOOL_OPTIONS else text))
 
 
-def read_group(name: bytes, value: bytes, marks: list[Mark]) -> Said:
+def read_group(name: bytes, value: bytes, marks: list[Mark]) -> Mark:
     text = name.decode("latin-1")
     if not (WORD.fullmatch(name) or name == b">") or text in NAMES or text in EMPTY_NAMES:
         raise Refused("BadName")
@@ -297,10 +288,10 @@ def read_group(name: bytes, value: bytes, marks: list[Mark]) -> Said:
     groups = groups_before(marks)
     if text not in groups and len(groups) >= COUNT_LIMIT:
         raise Refused("TooMany")
-    return Said("", None, ("group", text, attributes))
+    return Mark("", None, ("group", text, attributes))
 
 
-def read_statement(line: bytes, marks: list[Mark]) -> Said | None:
+def read_statement(line: bytes, marks: list[Mark]) -> Mark | None:
     """What a used line that is no directive says."""
     line = expanded(line, marks).strip(BLANKS)
     if not line or line.startswith(b"#"):
@@ -317,15 +308,14 @@ def read_statement(line: bytes, marks: list[Mark]) -> Said | None:
     return read_group(name, value, marks)
 
 
-def read_line(line: bytes, around: list[Around], marks: list[Mark]) -> tuple[Said | None, bool]:
-    """What a line without the blanks around it says, and whether it is used; None where it says
-    nothing."""
+def read_line(line: bytes, around: list[Around], marks: list[Mark]) -> Mark | None:
+    """What a line without the blanks around it says, or None where it says nothing."""
     used = all(mark.used and mark.first != divided for mark, divided in around)
     if used and len(line) > LINE_LIMIT:
         raise Refused("LineTooLong")
     if line.startswith(b"@@") and line[2:3] != b"{":
-        return read_directive(line, used, around, marks), used
-    return (read_statement(line, marks) if used else None), used
+        return read_directive(line, used, around, marks)
+    return read_statement(line, marks) if used else None
 
 
 def marks_of(texts: Sequence[tuple[str, bytes]]) -> list[Mark] | Fault:
@@ -339,12 +329,12 @@ def marks_of(texts: Sequence[tuple[str, bytes]]) -> list[Mark] | Fault:
             if not line or line.startswith(b"#"):
                 continue
             try:
-                said, used = read_line(line, enclosing(of_text), marks)
+                mark = read_line(line, enclosing(of_text), marks)
             except Refused as refused:
                 return Fault(text, number, str(refused))
-            if said:
-                of_text.append(Mark(text, said.block, used, said.first, said.says))
-                marks.append(of_text[-1])
+            if mark:
+                of_text.append(mark)
+                marks.append(mark)
         if enclosing(of_text):
             return Fault(text, len(lines) + 1, "MissingEndif")
     return marks

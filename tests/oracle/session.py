@@ -2,7 +2,7 @@
 from __future__ import annotations
 
 from collections.abc import Callable
-from typing import Dict, List, Tuple, Union
+from typing import Dict, List, NamedTuple, Optional, Tuple, Union
 
 from tests.lib.answer import Answer
 
@@ -207,24 +207,16 @@ def compare(settings: Settings, files: Files, form: Form) -> Answer:
     return Answer(output, errors, status)
 
 
-class Form:
+class Form(NamedTuple):
     """What a program writes: `written` gives the output of a comparison and its status, `begun`
     what may have gone out before a fault of the given texts, and `checked` the output of a check of
     the configuration. `read` reads the words, and `usage` is the line about others."""
 
-    def __init__(
-        self,
-        usage: bytes,
-        written: Written,
-        begun: Callable[[list[File], Settings], bytes],
-        checked: Callable[[Settings], bytes],
-        read: Callable[[list[bytes]], Job | None],
-    ) -> None:
-        self.usage = usage
-        self.written = written
-        self.begun = begun
-        self.checked = checked
-        self.read = read
+    usage: bytes
+    written: Written
+    begun: Callable[[list[File], Settings], bytes]
+    checked: Callable[[Settings], bytes]
+    read: Callable[[list[bytes]], Job | None]
 
 
 def writes_nothing(*_: object) -> bytes:
