@@ -42,7 +42,7 @@ from tests.oracle.session import NO_MEMORY, USAGE, refused
 from tests.lib.preload import PreloadTest, run_with
 from tests.program.random_sessions import Make, make_session, make_session_beside
 from tests.program.real_files.test_examples import folders_of_aide, words_at
-from tests.program.real_files.folder import NEW, OLD, SKIPPING, names
+from tests.program.real_files.folder import NEW, OLD, SKIPPING, Folder, names
 
 SESSIONS = 20  # Random ones.
 NOTES = struct.Struct("3l")
@@ -137,15 +137,6 @@ def try_session(refuser: Refuser, words: list[bytes]) -> dict[str, list[str]]:
     return found
 
 
-def made(folder: bytes, **files: bytes) -> bytes:
-    """Writes files into a new folder; a word `/@DIR@` of theirs stands for it."""
-    os.makedirs(folder)
-    for name, text in files.items():
-        with open(os.path.join(folder, name.encode()), "wb") as file:
-            file.write(text.replace(cases.DIR, folder))
-    return os.path.join(folder, b"conf")
-
-
 def stored_sessions(top: bytes) -> Iterator[Labelled]:
     for number, path in enumerate(cases.all_cases()):
         folder = os.path.join(top, b"case-%d" % number)
@@ -156,11 +147,11 @@ def stored_sessions(top: bytes) -> Iterator[Labelled]:
 def refused_sessions(top: bytes) -> Iterator[Labelled]:
     """Databases and configurations that are refused."""
     for number, (said, text) in enumerate(refusal_rows.DATABASES):
-        folder = os.path.join(top, b"database-%d" % number)
-        yield said, [b"-E", b"-c", made(folder, conf=cases.DATABASES, old=text, new=NEW)]
+        yield said, Folder(os.path.join(top, b"database-%d" % number)).put([text, NEW])
     for number, (_, said, text) in enumerate(refused_configurations.ALL):
-        folder = os.path.join(top, b"configuration-%d" % number)
-        yield said, [b"-D", b"-c", made(folder, conf=text)]
+        folder = Folder(os.path.join(top, b"configuration-%d" % number))
+        folder.write("conf", text)
+        yield said, [b"-D", b"-c", folder.at("conf")]
 
 
 def example_sessions(levels: list[str]) -> Iterator[Labelled]:
@@ -193,40 +184,28 @@ def definitions_of_each_length() -> bytes:
 
 def long_sessions(top: bytes) -> Iterator[Labelled]:
     """Many definitions, and long words, configurations and paths."""
-    pair = cases.DATABASES
-    conf = made(
-        os.path.join(top, b"long"), conf=pair + definitions_of_each_length(), old=OLD, new=NEW
-    )
-    yield "many words", [b"-E", b"-c", conf] + [b"word"] * 40
-    yield "long words", [b"-D", b"-c", conf, b"-B", b"#" * 9000, b"-A", b"\n" * 30000]
-    yield "many definitions, checked", [
-        b"-D",
-        b"-c",
-        conf,
-        b"-B",
-        b"@@define A x",
-        b"-A",
-        b"mine = gggg+p",
-    ]
-    yield "many definitions, compared", [
-        b"-E",
-        b"-c",
-        conf,
-        b"-A",
-        b"report_ignore_changed_attrs=gg",
-    ]
-    yield "a fault behind many definitions", [b"-E", b"-c", conf, b"-A", b"mine = nope"]
-    lines = pair + b"/a line without effect @@{A}\n" * 1000
-    conf = made(os.path.join(top, b"lines"), conf=lines, old=SKIPPING, new=SKIPPING)
-    yield "a long configuration", [b"-E", b"-c", conf, b"-B", b"@@define A x"]
+    folder = Folder(os.path.join(top, b"long"))
+    folder.pair(options=definitions_of_each_length())
+    conf, words = folder.at("conf"), folder.words()
+    checked = [b"-D", b"-c", conf]
+    yield "many words", words + [b"word"] * 40
+    yield "long words", checked + [b"-B", b"#" * 9000, b"-A", b"\n" * 30000]
+    defining = [b"-B", b"@@define A x", b"-A", b"mine = gggg+p"]
+    yield "many definitions, checked", checked + defining
+    yield "many definitions, compared", words + [b"-A", b"report_ignore_changed_attrs=gg"]
+    yield "a fault behind many definitions", words + [b"-A", b"mine = nope"]
+    folder = Folder(os.path.join(top, b"lines"))
+    folder.pair(SKIPPING, SKIPPING, b"/a line without effect @@{A}\n" * 1000)
+    conf, words = folder.at("conf"), folder.words()
+    yield "a long configuration", words + [b"-B", b"@@define A x"]
     yield "a long configuration that is not there", [b"-E", b"-c", conf + b"\\\n" + b"n" * 4000]
     deep = top
     while len(deep) + len(FOLDER_NAME) + len(b"/conf") < PATH_LIMIT - len(FOLDER_NAME):
         deep = os.path.join(deep, FOLDER_NAME)
-    conf = made(deep, conf=pair, old=OLD, new=NEW)
-    yield "long paths", [b"-E", b"-c", conf]
+    words = Folder(deep).put([OLD, NEW])
+    yield "long paths", words
     after = b"database_new=file:%s/none" % deep
-    yield "a database that is not there, on a long path", [b"-E", b"-c", conf, b"-A", after]
+    yield "a database that is not there, on a long path", words + [b"-A", after]
 
 
 def random_sessions(
@@ -244,20 +223,11 @@ def random_sessions(
 
 def long_sessions_beside(top: bytes) -> Iterator[Labelled]:
     """Trusted databases on long paths, and of many names."""
-    folder = os.path.join(top, b"beside", FOLDER_NAME, FOLDER_NAME)
-    files = {"old": OLD, "new": NEW, "trusted_old": names(3000), "trusted_new": SKIPPING}
-    conf = made(folder, conf=cases.DATABASES, **files)
-    trusted = [
-        b"--trusted-old",
-        os.path.join(folder, b"trusted_old"),
-        b"--trusted-new",
-        os.path.join(folder, b"trusted_new"),
-    ]
-    yield "beside a long trusted database", [b"-E", b"-c", conf] + trusted
-    yield "beside no trusted database", [b"-E", b"-c", conf] + trusted[:3] + [
-        trusted[3] + b"x" * 200
-    ]
-    yield "a trusted pair in part", [b"-E", b"-c", conf] + trusted[:2]
+    folder = Folder(os.path.join(top, b"beside", FOLDER_NAME, FOLDER_NAME))
+    words = folder.put([OLD, NEW, names(3000), SKIPPING])
+    yield "beside a long trusted database", words
+    yield "beside no trusted database", words[:-1] + [words[-1] + b"x" * 200]
+    yield "a trusted pair in part", words[:5]
 
 
 def sessions(top: bytes, seed: int, count: int) -> Iterator[Labelled]:

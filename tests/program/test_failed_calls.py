@@ -25,7 +25,7 @@ from tests.lib.tally import side_by_side
 from tests.oracle.files import wanted, wanted_lines
 from tests.oracle.session import BAD_CONFIGURATION, BAD_DATABASE, BAD_DEVICE, USAGE, refused
 from tests.lib.preload import PreloadTest, run_with
-from tests.program.real_files.folder import NEW, OLD, SKIPPING, Folder, names
+from tests.program.real_files.folder import FILES, NAMES, NEW, OLD, SKIPPING, Folder, names
 
 NOTE = struct.Struct("3l")
 OPEN, CLOSE, READ, WRITE = range(1, 5)
@@ -66,10 +66,6 @@ OPENINGS = {
     "a report of several pages": 3,
     "columns that are skipped": 2,
 }
-# The databases by the names of their files, in the order in which they are opened, and what a fault
-# calls them.
-FILES = ["old", "new", "trusted_old", "trusted_new"]
-NAMES = [b"old", b"new", b"trusted old", b"trusted new"]
 
 
 def openings_of_report(label: str, words: list[bytes], answer: Answer) -> int | None:
@@ -96,9 +92,7 @@ def sessions(folder: bytes) -> Iterator[Labelled]:
         "a bad configuration": (OLD, NEW, b"nonsense"),
     }
     for number, (label, (old, new, options)) in enumerate(texts.items()):
-        files = Folder()
-        files.path = os.path.join(folder, b"%d" % number)
-        os.mkdir(files.path)
+        files = Folder(os.path.join(folder, b"%d" % number))
         files.pair(old, new, options)
         with open(files.at("conf"), "rb") as file:
             yield label, files.words(), (file.read(), old, new)
@@ -119,13 +113,10 @@ def sessions_of_lines(folder: bytes) -> Iterator[Labelled]:
         "a trusted new database that is cut": (OLD, NEW, OLD, NEW[:60]),
     }
     for number, (label, four) in enumerate(texts.items()):
-        files = Folder()
-        files.path = os.path.join(folder, b"beside-%d" % number)
-        os.mkdir(files.path)
-        files.pair(*four[:2])
-        files.trusted(*four[2:])
+        files = Folder(os.path.join(folder, b"beside-%d" % number))
+        words = files.put(four)
         with open(files.at("conf"), "rb") as file:
-            yield label, files.words_beside(), (file.read(), *four)
+            yield label, words, (file.read(), *four)
 
 
 def opened_as(session: Session, number: int) -> int:

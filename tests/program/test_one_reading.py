@@ -18,9 +18,8 @@ from tests.lib.program_test import new_seed, slow
 from tests.lib.tally import side_by_side
 from tests.oracle.files import wanted_lines
 from tests.program.random_texts.databases import broken
-from tests.program.real_files.folder import EMPTY, NEW, OLD, SKIPPING, Folder, names
+from tests.program.real_files.folder import EMPTY, FILES, NEW, OLD, SKIPPING, Folder, names
 from tests.program.real_files.test_fifos import fed
-from tests.program.test_failed_calls import FILES
 from tests.program.lines_program import LinesProgramTest, faults_of_lines
 
 HEAD = b"@@begin_db\n@@db_spec name perm lname mtime\n"
@@ -50,19 +49,6 @@ def broken_text(pick: random.Random, later: int) -> bytes:
     lines = text_of(pick, later)
     text = b"\n".join(lines)
     return broken(pick, [], lines, text, pick.choice(WAYS)) if pick.random() < 0.4 else text
-
-
-def put(folder: Folder, texts: Sequence[bytes | None]) -> list[bytes]:
-    """Writes the databases of a comparison, with a trusted pair if there are four. None of a
-    database leaves it out. Gives the words."""
-    folder.pair()
-    folder.trusted()
-    for name, text in zip(FILES, texts):
-        if text is None:
-            os.unlink(folder.at(name))
-        else:
-            folder.write(name, text)
-    return folder.words_beside() if len(texts) > 2 else folder.words()
 
 
 def read_slowly(program: bytes, words: list[bytes], at_first: Callable[[], None]) -> Answer:
@@ -129,7 +115,7 @@ class OneReadingTest(LinesProgramTest):
         """The answer over these texts, and what is not as wanted of it: the report of two databases
         ends alike."""
         with Folder() as folder:
-            words = put(folder, texts)
+            words = folder.put(texts)
             answer = run(self.lines_program, words)
             faults = difference(answer, wanted_lines(words)) + faults_of_lines(answer)
             if len(texts) == 2:
@@ -178,7 +164,7 @@ class OneReadingTest(LinesProgramTest):
                 ("four long databases", [OLD, names(6000), SKIPPING, names(6000)]),
                 ("four databases with a fault", [names(6000), NEW, OLD, OLD[:-9]]),
             ):
-                words = put(folder, texts)
+                words = folder.put(texts)
                 want = wanted_lines(words)
                 by_path = {
                     folder.at(name): [text, other] for name, text in zip(FILES, texts) if text
@@ -192,7 +178,7 @@ class OneReadingTest(LinesProgramTest):
         other files meanwhile."""
         for texts in ([OLD, names(9000)], [names(9000), SKIPPING, OLD, names(9000)]):
             with Folder() as folder:
-                words = put(folder, texts)
+                words = folder.put(texts)
                 want = wanted_lines(words)
 
                 def replace_all() -> None:
@@ -211,7 +197,7 @@ class OneReadingTest(LinesProgramTest):
         label = f"{way.__name__}, {name}"
         with Folder() as folder:
             gone = names(ENTRIES)
-            words = put(folder, [gone, EMPTY, gone, EMPTY])
+            words = folder.put([gone, EMPTY, gone, EMPTY])
             answers = []
             for text in texts:
                 folder.write(name, text)

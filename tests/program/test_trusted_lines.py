@@ -11,7 +11,6 @@ import glob
 import json
 import os
 
-
 from tests.commands.viewers.schema import Validator, schema_of_lines
 from tests.lib.answer import Answer, difference, run, shown
 from tests.lib.program_test import SESSIONS, new_seed, slow
@@ -22,10 +21,9 @@ from tests.oracle.lines import LINES_USAGE
 from tests.oracle.session import USAGE_LINE
 from tests.program import cases, line_rows
 from tests.program.damages import WAYS
-from tests.program.test_failed_calls import FILES, NAMES
 from tests.program.random_sessions import make_session_beside, try_sessions
 from tests.program.real_files.test_devices import check_outputs
-from tests.program.real_files.folder import EMPTY, Folder, database
+from tests.program.real_files.folder import EMPTY, FILES, NAMES, Folder, database
 from tests.program.lines_program import LinesProgramTest, faults_of_lines
 
 CASES = os.path.join(os.path.dirname(cases.FOLDER), cases.LINES, "*.case")
@@ -43,11 +41,6 @@ FOUR = [
 REFUSED = Answer(b"", USAGE_LINE + b"\n", 15)
 REFUSED_LINES = Answer(b"", LINES_USAGE + b"\n", 15)
 VALIDATOR = Validator(schema_of_lines())
-
-
-def folder_of(folder: Folder, four: list[bytes]) -> None:
-    folder.pair(*four[:2])
-    folder.trusted(*four[2:])
 
 
 class TrustedTest(LinesProgramTest):
@@ -72,23 +65,25 @@ class TrustedTest(LinesProgramTest):
             for line in want.output.splitlines():
                 self.add("the schema at " + label, VALIDATOR.faults(json.loads(line)))
 
+    def is_accounted(self, label: str, four: list[bytes], accounts: bool) -> None:
+        """The lines over one path, which a trusted entry accounts for or not."""
+        with Folder() as folder:
+            words = folder.put(four)
+            answer = run(self.lines_program, words)
+            self.check(label, answer, wanted_lines(words))
+        first, entry, last = (json.loads(line) for line in answer.output.splitlines())
+        counts = (entry.get("same_as"), last["same_as_trusted"], last["others"])
+        self.holds(label, counts == (("trusted", 1, 0) if accounts else (None, 0, 1)), counts)
+        for line in (first, entry, last):
+            self.add(f"the schema at {line}", VALIDATOR.faults(line))
+
     def test_accounts(self) -> None:
         """Whether the entry that a trusted machine has accounts for one that came; turned round the
         answer is the same."""
         for columns, one, other, is_same in line_rows.ACCOUNTS:
             sides = [database(columns, b" ".join(fields)) for fields in (one, other)]
             for came, trusted in (sides, sides[::-1]):
-                with Folder() as folder:
-                    folder_of(folder, [EMPTY, came, EMPTY, trusted])
-                    words = folder.words_beside()
-                    self.ends(shown(trusted), words, 1)
-                    output = run(self.lines_program, words).output
-                first, entry, last = (json.loads(line) for line in output.splitlines())
-                counts = (entry.get("same_as"), last["same_as_trusted"], last["others"])
-                want = ("trusted", 1, 0) if is_same else (None, 0, 1)
-                self.holds(shown((came, trusted)), counts == want, counts)
-                for line in (first, entry, last):
-                    self.add(f"the schema at {line}", VALIDATOR.faults(line))
+                self.is_accounted(shown(trusted), [EMPTY, came, EMPTY, trusted], is_same)
 
     def test_what_happened(self) -> None:
         """A trusted machine accounts for what happened there, and not for what it always had."""
@@ -97,19 +92,12 @@ class TrustedTest(LinesProgramTest):
                 database(line_rows.PAIR_COLUMNS, b" ".join(fields)) if fields else EMPTY
                 for fields in entries
             ]
-            with Folder() as folder:
-                folder_of(folder, four)
-                answer = run(self.lines_program, folder.words_beside())
-                self.check(label, answer, wanted_lines(folder.words_beside()))
-            _, entry, last = (json.loads(line) for line in answer.output.splitlines())
-            counts = (entry.get("same_as"), last["same_as_trusted"], last["others"])
-            want = ("trusted", 1, 0) if accounts else (None, 0, 1)
-            self.holds(label, counts == want, counts)
+            self.is_accounted(label, four, accounts)
 
     def test_words(self) -> None:
         """Each way to name a pair, and to name less or more than one."""
         with Folder() as folder:
-            folder_of(folder, FOUR)
+            folder.put(FOUR)
             old = [b"--trusted-old", folder.at("trusted_old")]
             new = [b"--trusted-new", folder.at("trusted_new")]
             compared = folder.words()
@@ -156,18 +144,13 @@ class TrustedTest(LinesProgramTest):
     def test_refused(self) -> None:
         """The program of the report refuses both options."""
         with Folder() as folder:
-            folder_of(folder, FOUR)
-            for words in (
-                folder.words_beside(),
-                folder.words_beside()[:5],
-                [b"-D"] + folder.words_beside()[1:],
-            ):
-                self.check("a report beside a pair", run(self.program, words), REFUSED)
+            words = folder.put(FOUR)
+            for each in (words, words[:5], [b"-D"] + words[1:]):
+                self.check("a report beside a pair", run(self.program, each), REFUSED)
 
     def four(self, four: list[bytes]) -> list[str]:
         with Folder() as folder:
-            folder_of(folder, four)
-            _, faults = self.beside(folder.words_beside())
+            _, faults = self.beside(folder.put(four))
         return faults + ["the databases were %r" % four] if faults else []
 
     @slow
@@ -189,16 +172,14 @@ class TrustedTest(LinesProgramTest):
             ]
             first = [at for at in range(4) if faulty >> at & 1][0]
             with Folder() as folder:
-                folder_of(folder, four)
+                words = folder.put(four)
                 place = NAMES[first], four[first].count(b"\n") + 1
                 want = Answer(b"", b"aide: %s database:%d: no @@end_db\n" % place, 24)
-                answer = run(self.lines_program, folder.words_beside())
+                answer = run(self.lines_program, words)
                 self.check("faults %s" % bin(faulty), answer._replace(output=b""), want)
-                self.ends("faults %s, by the definitions" % bin(faulty), folder.words_beside(), 24)
-                for at in range(4):
-                    if faulty >> at & 1:
-                        os.unlink(folder.at(FILES[at]))
-                self.ends("missing %s" % bin(faulty), folder.words_beside(), 18)
+                self.ends("faults %s, by the definitions" % bin(faulty), words, 24)
+                missing = [None if faulty >> at & 1 else text for at, text in enumerate(four)]
+                self.ends("missing %s" % bin(faulty), folder.put(missing), 18)
 
     @slow
     def test_long_lines(self) -> None:
@@ -210,14 +191,12 @@ class TrustedTest(LinesProgramTest):
                 four = list(FOUR)
                 four[at] = four[at].replace(b"@@end_db", line + b"@@end_db")
                 with Folder() as folder:
-                    folder_of(folder, four)
                     label = "a line of %d bytes, %s" % (len(line) - 1, FILES[at])
-                    self.ends(label, folder.words_beside(), status)
+                    self.ends(label, folder.put(four), status)
 
     def test_outputs(self) -> None:
         with Folder() as folder:
-            folder_of(folder, FOUR)
-            check_outputs(self, "lines", self.lines_program, folder.words_beside())
+            check_outputs(self, "lines", self.lines_program, folder.put(FOUR))
 
     def test_random_sessions(self) -> None:
         """Random sessions, in which each account has to come often."""

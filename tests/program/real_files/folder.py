@@ -4,6 +4,7 @@ from __future__ import annotations
 import os
 import shutil
 import tempfile
+from collections.abc import Sequence
 from typing import Any
 
 from tests.lib.answer import Answer, difference, run
@@ -12,6 +13,10 @@ from tests.program.lines_program import LinesProgramTest
 
 OLD = b"@@begin_db\n@@db_spec name attr perm size\n/b 36 40755 4096\n/c 36 100644 10\n@@end_db\n"
 NEW = b"@@begin_db\n@@db_spec name attr perm size\n/a 36 100644 5\n/c 36 100600 7\n@@end_db\n"
+# The databases by the names of their files, in the order in which they are opened, and what a fault
+# calls them.
+FILES = ["old", "new", "trusted_old", "trusted_new"]
+NAMES = [b"old", b"new", b"trusted old", b"trusted new"]
 EMPTY = b"@@begin_db\n@@db_spec name\n@@end_db\n"
 SKIPPING = b"@@begin_db\n@@db_spec name size foo\n/a 1 x\n@@end_db\n"
 
@@ -31,7 +36,12 @@ def names(count: int) -> bytes:
 
 
 class Folder:
-    """Files for one trial after another; taken away at the end."""
+    """Files for one trial after another: at a path, or for so long as it is entered."""
+
+    def __init__(self, path: bytes = b"") -> None:
+        self.path = path
+        if path:
+            os.makedirs(path)
 
     def __enter__(self) -> Folder:
         self.path = tempfile.mkdtemp(prefix="aide-").encode()
@@ -57,10 +67,16 @@ class Folder:
         self.write("old", old)
         self.write("new", new)
 
-    def trusted(self, old: bytes = OLD, new: bytes = NEW) -> None:
-        """Writes the two databases of a trusted pair."""
-        self.write("trusted_old", old)
-        self.write("trusted_new", new)
+    def put(self, texts: Sequence[bytes | None]) -> list[bytes]:
+        """Writes the databases of a comparison, beside a trusted pair if there are four, without
+        those that are None. Gives the words."""
+        self.pair()
+        for name, text in zip(FILES, texts):
+            if text is not None:
+                self.write(name, text)
+            elif os.path.exists(self.at(name)):
+                os.unlink(self.at(name))
+        return self.words_beside() if len(texts) > 2 else self.words()
 
     def words_beside(self, *more: bytes) -> list[bytes]:
         """The words of a comparison beside the trusted pair."""
