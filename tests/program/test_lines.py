@@ -13,9 +13,9 @@ import gzip
 import os
 import unittest
 
-
-from tests.lib.answer import shown
+from tests.lib.answer import run, shown
 from tests.lib.program_test import SESSIONS, new_seed, slow
+from tests.lib.scratch import read
 from tests.oracle.attributes import ATTRIBUTES, Attribute
 from tests.oracle.database import LINE_LIMIT
 from tests.oracle.files import wanted_lines
@@ -26,6 +26,8 @@ from tests.program.real_files.folder import EMPTY, NEW, OLD, SKIPPING, Folder
 from tests.program.real_files.test_outside import check_file_sizes
 from tests.program.test_configurations import with_all
 
+# The list that is shipped.
+SHIPPED = read("contrib/aide/debian.without").encode()
 OTHER_VALUES = {
     "type": b"100600",
     "perm": b"100600",
@@ -183,9 +185,15 @@ class LinesTest(LinesProgramTest):
 
     @unittest.skipUnless(os.environ.get("AIDE_PAIRS"), "only with AIDE_PAIRS=DIRECTORY")
     def test_pairs(self) -> None:
-        """Each database below a directory, compared with the next one there."""
+        """Each database below a directory, compared with the next one there; and beside a trusted
+        machine that had the same one, and has the one after that."""
         for folder, _, files in sorted(os.walk(os.environ["AIDE_PAIRS"])):
             texts = [(name, text_of(os.path.join(folder, name))) for name in sorted(files)]
             texts = [(name, text) for name, text in texts if b"@@begin_db" in text[:4096]]
-            for (name, old), (other, new) in zip(texts, texts[1:] + texts[:1]):
-                self.compared("%s, %s and %s" % (folder, name, other), old, new)
+            for at, (name, old) in enumerate(texts):
+                new, trusted = (texts[(at + step) % len(texts)][1] for step in (1, 2))
+                self.compared("%s, %s and the next one" % (folder, name), old, new)
+                with Folder() as made:
+                    words = [*made.put([old, new, old, trusted]), b"--without", SHIPPED]
+                    answer = run(self.lines_program, words)
+                    self.check("beside a trusted pair, " + name, answer, wanted_lines(words))
