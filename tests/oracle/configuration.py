@@ -37,25 +37,12 @@ URL_OPTIONS = {
     "database_new": "database_new",
 }
 OLDER_OPTIONS = ["ignore_list", "report_attributes", "grouped", "summarize_changes"]
-WITHOUT_EFFECT = [
-    "database_out",
-    "database_gzip",
-    "gzip_dbout",
-    "database_attrs",
-    "database_add_metadata",
-    "log_level",
-    "verbose",
-    "config_version",
-    "config_check_warn_unrestricted_rules",
-    "root_prefix",
-    "num_workers",
-    "acl_no_symlink_follow",
-    "warn_dead_symlinks",
-    "report_append",
-    "report_detailed_init",
-    "report_ignore_e2fsattrs",
-    "syslog_format",
-]
+WITHOUT_EFFECT = (
+    "database_out database_gzip gzip_dbout database_attrs database_add_metadata log_level verbose"
+    " config_version config_check_warn_unrestricted_rules root_prefix num_workers"
+    " acl_no_symlink_follow warn_dead_symlinks report_append report_detailed_init"
+    " report_ignore_e2fsattrs syslog_format"
+).split()
 OPTIONS = (
     ["report_level", "report_url", "report_format"]
     + BOOL_OPTIONS

@@ -128,19 +128,7 @@ FORCED = [
 # The predefined names, and the details of an entry with all attributes that each of them forces.
 RIGHTS = ["ACL", "XAttrs", "SELinux", "E2FSAttrs", "Caps"]
 INODE = ["Type", "Lname", "Perm", "UID", "GID", "Inode", "Linkcount"]
-DIGESTS = [
-    "MD5",
-    "SHA1",
-    "SHA256",
-    "SHA512",
-    "RMD160",
-    "TIGER",
-    "CRC32",
-    "CRC32B",
-    "HAVAL",
-    "GOST",
-    "WHIRLPOOL",
-]
+DIGESTS = "MD5 SHA1 SHA256 SHA512 RMD160 TIGER CRC32 CRC32B HAVAL GOST WHIRLPOOL".split()
 DIGESTS += ["STRIBOG256", "STRIBOG512", "SHA512/256", "SHA3-256", "SHA3-512"]
 NAMES = [
     (b"E", []),

@@ -54,21 +54,11 @@ NUMBERS = [
     -(2**63),
 ]
 MODES = [
-    0o100644,
-    0o100755,
-    0o100600,
-    0o40755,
-    0o120777,
-    0o20600,
-    0o60660,
-    0o10644,
-    0o140755,
-    0o644,
-    0o100000,
-    0o4100755,
-    0o170644,
-    0o37777777777,
-    0,
+    int(mode, 8)
+    for mode in (
+        "100644 100755 100600 40755 120777 20600 60660 10644 140755 644 100000 4100755 170644"
+        " 37777777777 0"
+    ).split()
 ]
 BITS = [0, 0, 2**64 - 1, 4095, 4094, 316, 2**40 + 36, 32]
 LINKS = [
@@ -109,26 +99,7 @@ BAD_FIELDS = {
     for said in ("bad number", "bad time", "bad digest")
 }
 BAD_MODES = [field for column, field, _ in REFUSED if column == b"perm"]
-BREAKS = [
-    "cut",
-    "byte",
-    "drop",
-    "double",
-    "exchange",
-    "field",
-    "field",
-    "field",
-    "field",
-    "field",
-    "field",
-    "order",
-    "more",
-    "less",
-    "name",
-    "spec",
-    "stray",
-    "long",
-]
+BREAKS = "cut byte drop double exchange order more less name spec stray long".split() + 6 * ["field"]
 BAD_SPECS = [b"", b" size", b" name name", b" name size size", b" name" + b" x" * 64, b" Name size"]
 STRAYS = [
     b"@@begin_db",
