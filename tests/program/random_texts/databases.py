@@ -99,7 +99,9 @@ BAD_FIELDS = {
     for said in ("bad number", "bad time", "bad digest")
 }
 BAD_MODES = [field for column, field, _ in REFUSED if column == b"perm"]
-BREAKS = "cut byte drop double exchange order more less name spec stray long".split() + 6 * ["field"]
+BREAKS = "cut byte drop double exchange order more less name spec stray long".split() + 6 * [
+    "field"
+]
 BAD_SPECS = [b"", b" size", b" name name", b" name size size", b" name" + b" x" * 64, b" Name size"]
 STRAYS = [
     b"@@begin_db",
