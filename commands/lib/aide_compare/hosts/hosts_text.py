@@ -6,6 +6,7 @@ many lines and columns that people read it.
 from __future__ import annotations
 
 from collections.abc import Callable, Iterable, Iterator, Sequence
+from textwrap import shorten
 from typing import NamedTuple
 
 from aide_compare.base.escapes import guarded
@@ -191,7 +192,7 @@ def short_lines(report: Report) -> Iterator[str]:
     """Yields the lines of the short text, at most MAX_ROWS of at most MAX_COLUMNS."""
     summary = report.summary
     lists = host_lists(report.hosts)
-    head = [shortened(line, MAX_COLUMNS) for line in canary_lines(summary)]
+    head = [shorten(line, MAX_COLUMNS, placeholder="...") for line in canary_lines(summary)]
     head += [headline(summary), summary.counts.others(), ""]
     head += list_lines("Not compared", lists["Not compared"], MAX_MISSING)
     head += list_lines("Not all listed", lists["Not all changes are listed"], MAX_CUT)
