@@ -8,7 +8,7 @@ import time
 from collections.abc import Callable, Iterator, Sequence
 from contextlib import closing, suppress
 from functools import partial
-from typing import Optional
+from typing import TYPE_CHECKING, Optional
 
 from aide_compare.base.ending import Fault, Status, say, why_of, write_all
 from aide_compare.base.escapes import guarded
@@ -26,7 +26,6 @@ from aide_compare.base.options import (
 from aide_compare.base.parser import Defaults, Given, Parser, defaults_for, filled
 from aide_compare.base.replacement import Replacement
 from aide_compare.base.rights import become_owner, give_up
-from aide_compare.changes.judged import Judged
 from aide_compare.commands.compare import CompareRequest, Row, ComparisonJob, checked, keep_failure
 from aide_compare.commands.defaults import comparison_defaults
 from aide_compare.compare.comparison import Comparison
@@ -36,9 +35,11 @@ from aide_compare.lines.reader import Outline, Reader, Refused, reader_over
 from aide_compare.mail.message import build, clean, host_name, subject_of
 from aide_compare.mail.sending import Transport, alert, deliver, queue_transport, send_all
 from aide_compare.mail.sending import sendmail_transport
-from aide_compare.mail.text import Mail, fault_lines, note_lines, text_of_changes, text_of_unjudged
 from aide_compare.show.result import result_text
 from aide_compare.show.notes import told_of
+
+if TYPE_CHECKING:
+    from aide_compare.changes.judged import Judged
 
 NAME = "aide-compare mail"
 USAGE = "%(prog)s [OPTIONS] [OLD NEW]"
@@ -152,6 +153,9 @@ def lines_of_mail(
     request: MailRequest, comparison: Comparison, judged: Judged | None, notes: Sequence[str]
 ) -> list[str]:
     """The lines of the text."""
+    from aide_compare.mail.text import Mail, fault_lines, note_lines, text_of_changes
+    from aide_compare.mail.text import text_of_unjudged
+
     if comparison.has_failed:
         return fault_lines(notes)
     warnings = [guarded(warning) for warning in comparison.warnings]

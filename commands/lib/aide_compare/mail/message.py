@@ -1,23 +1,19 @@
 """The mails of aide-compare mail: headers, parts and subjects."""
 from __future__ import annotations
 
-import email
 import os
 import re
 import time
 from collections.abc import Iterable, Sequence
-from email.contentmanager import raw_data_manager
-from email.message import EmailMessage, Message
-from email.policy import compat32
+from typing import TYPE_CHECKING
 
 from aide_compare.base.escapes import shown_lines
 from aide_compare.base.words import KINDS
 from aide_compare.compare.state import State, not_compared
 
-# Each header is ASCII of our own, and is written as it is, in one line: an address may be anything
-# that the mail system of this machine knows, also what is none by RFC 5322.
-POLICY = compat32.clone(max_line_length=76, mangle_from_=False)
-ONE_LINE_HEADERS = POLICY.clone(max_line_length=None)
+if TYPE_CHECKING:
+    from email.message import Message
+
 # A longer line needs quoted-printable, whose lines have the length of the policy.
 MAX_LINE = 990
 MAX_FIRST_LINES = 25
@@ -72,7 +68,15 @@ def encoding_of(data: bytes) -> str:
 
 def build(address: str, subject: str, text: bytes, page: bytes | None = None) -> bytes:
     """The bytes of a mail: a text, to which its page may be attached."""
-    message = EmailMessage(policy=POLICY)
+    # 30 ms that a night without a mail does not need.
+    from email.contentmanager import raw_data_manager
+    from email.message import EmailMessage
+    from email.policy import compat32
+
+    # Each header is ASCII of our own, and is written as it is, in one line: an address may be
+    # anything that the mail system of this machine knows, also what is none by RFC 5322.
+    policy = compat32.clone(max_line_length=76, mangle_from_=False)
+    message = EmailMessage(policy=policy)
     message["To"] = address
     message["Subject"] = subject
     message["Date"] = time.strftime("%a, %d %b %Y %H:%M:%S +0000", time.gmtime())
@@ -89,7 +93,7 @@ def build(address: str, subject: str, text: bytes, page: bytes | None = None) ->
             cte=encoding_of(page),
             content_manager=raw_data_manager,
         )
-    return message.as_bytes(policy=ONE_LINE_HEADERS)
+    return message.as_bytes(policy=policy.clone(max_line_length=None))
 
 
 def text_part(message: Message) -> Message:
@@ -103,6 +107,8 @@ def text_part(message: Message) -> Message:
 def shortened(message: bytes, why: str) -> bytes:
     """A short mail in the place of one that was refused: its headers, its first lines, and the
     reason. It is made of the whole one, since that is all that a queue has."""
+    import email
+
     whole = email.message_from_bytes(message)
     payload = text_part(whole).get_payload(decode=True)
     data = payload if isinstance(payload, bytes) else b""

@@ -6,7 +6,6 @@ A way is a function that is given the bytes of a message, and raises a Fault if 
 """
 from __future__ import annotations
 
-import email
 import fcntl
 import os
 import socket
@@ -110,6 +109,8 @@ def deliver(way: Transport, message: bytes) -> None:
     if refusal_of(way, shortened(message, why)) is None:
         say(f"only a short mail was sent: {why}")
         return
+    import email
+
     subject = email.message_from_bytes(message)["Subject"]
     log = "there is no system log either"
     if alert(f"no mail could be sent ({why}): {subject}"):
