@@ -1,4 +1,4 @@
-"""Tries what the built program makes of the fields of a database, by the details of its reports.
+"""Tries what the built programs make of the fields of a database, by the details of reports.
 
 The tables in field_rows.py and change_rows.py say what a field means, whether two of them differ,
 and what a report makes of that. The table of attributes in oracle/attributes.py is tried row by
@@ -13,6 +13,7 @@ from tests.lib.answer import Answer, shown
 from tests.program import change_rows, field_rows
 from tests.oracle.attributes import ATTRIBUTES
 from tests.oracle.comparison import SLOTS
+from tests.oracle.files import wanted_lines
 from tests.oracle.texts import printed
 from tests.program.random_texts.databases import Form
 from tests.program.real_files.folder import EMPTY, FolderTest, database
@@ -55,10 +56,12 @@ class FieldTest(FolderTest):
     """One pair of databases after another, each in the place of the last."""
 
     def answer(self, label: str, old: bytes, new: bytes, options: bytes = ALL_DETAILS) -> Answer:
-        """The program's answer to two databases, which the definitions have to give too."""
+        """The program's answer to two databases, which the definitions have to give too. Lines end
+        as it does."""
         self.folder.pair(old, new, options)
-        answer = self.folder.run(self.program)
-        self.agree(label, self.folder.words(), answer)
+        answer, words = self.folder.run(self.program), self.folder.words()
+        self.agree(label, words, answer)
+        self.add(f"{label}, by lines", self.lines_faults(words, wanted_lines(words), answer))
         return answer
 
     def added(self, column: bytes, field: bytes) -> dict[str, bytes]:

@@ -8,7 +8,6 @@ the next one there.
 """
 from __future__ import annotations
 
-import base64
 import gzip
 import os
 import unittest
@@ -16,7 +15,7 @@ import unittest
 from tests.lib.answer import run, shown
 from tests.lib.program_test import SESSIONS, new_seed, slow
 from tests.lib.scratch import read
-from tests.oracle.attributes import ATTRIBUTES, Attribute
+from tests.oracle.attributes import ATTRIBUTES
 from tests.oracle.database import LINE_LIMIT
 from tests.oracle.files import wanted_lines
 from tests.program.lines_program import LinesProgramTest
@@ -28,14 +27,6 @@ from tests.program.test_configurations import with_all
 
 # The list that is shipped.
 SHIPPED = read("contrib/aide/debian.without").encode()
-OTHER_VALUES = {
-    "type": b"100600",
-    "perm": b"100600",
-    "number": b"18446744073709551615",
-    "time": b"LTk=",
-    "link": b"%ffz",
-    "opaque": b"a%00%ff",
-}
 # Of names with each byte: alone, behind a letter, and behind the first byte of a character of two,
 # three or four.
 FRONTS = [b"", b"x", b"\xc3", b"\xe2\x80", b"\xf0\x9f\x98"]
@@ -43,13 +34,6 @@ FRONTS = [b"", b"x", b"\xc3", b"\xe2\x80", b"\xf0\x9f\x98"]
 
 def coded(text: bytes) -> bytes:
     return b"".join(b"%%%02x" % byte for byte in text)
-
-
-def other_value(each: Attribute) -> bytes:
-    """A field of an attribute with another value than in `with_all`."""
-    if isinstance(each.form, str):
-        return OTHER_VALUES[each.form]
-    return base64.b64encode(b"\xff" * each.form[0])
 
 
 def both_jobs(folder: Folder) -> list[tuple[str, list[bytes]]]:
@@ -132,24 +116,11 @@ class LinesTest(LinesProgramTest):
         self.compared("links to each byte", old, new, 4)
 
     def test_attributes(self) -> None:
-        """Every attribute: added, removed and changed, alone and with all others, forced and
-        ignored."""
+        """All attributes in one entry, added, removed and forced; test_fields has each by itself."""
         self.compared("all attributes, added", EMPTY, with_all(), 1)
         self.compared("all attributes, removed", with_all(), EMPTY, 2)
-        every = with_all(**{each.column: other_value(each) for each in ATTRIBUTES})
-        self.compared("all attributes, changed", with_all(), every, 4)
-        self.compared(
-            "all attributes, forced",
-            with_all(),
-            with_all(uid=b"9"),
-            4,
-            options=b"report_force_attrs=R+H+X\n",
-        )
-        for each in ATTRIBUTES:
-            one = with_all(**{each.column: other_value(each)})
-            self.compared("another " + each.name, with_all(), one, 4)
-            ignored = b"report_ignore_changed_attrs=%s\n" % each.name.encode()
-            self.compared("another %s, ignored" % each.name, with_all(), one, 0, 4, options=ignored)
+        forced = b"report_force_attrs=R+H+X\n"
+        self.compared("all forced", with_all(), with_all(uid=b"9"), 4, options=forced)
 
     def test_outputs(self) -> None:
         with Folder() as folder:
