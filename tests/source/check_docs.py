@@ -2,8 +2,8 @@
 tables of files.
 
 - Each link of a page leads to a file of the repository.
-- Each file that a page names in backquotes exists: below the top, a crate, or a crate's src/. Built
-  files (`out/`) and names with `NAME` in them are left out.
+- Each file that a page names in backquotes exists, by its path or the end of it. Built files
+  (`out/`) and names with `NAME` in them are left out.
 - A block of code below `<!-- from: FILE -->` is FILE, letter for letter.
 - Each file of a crate's specs/ is reached from the contract of a public call, as
   tools/source/public_specs.py finds, or cited by the laws of the crate. No file of specs/code/ is
@@ -32,6 +32,17 @@ from tools.lib.arguments import parser_of
 from tools.source import headline_page, public_specs
 from tools.source.definitions import crates
 
+KINDS = (
+    "link",
+    "file",
+    "copied code",
+    "block",
+    "written page",
+    "length",
+    "place of a definition",
+    "clause",
+    "kind of change",
+)
 MOST_LINES = {"README.md": 120, "docs/HEADLINE_LINES.md": 600}
 DIAGRAMS = ("flowchart ", "sequenceDiagram\n")
 ENDINGS = r"(?:rt|antt|py|md|sh|c|txt|conf|edit|[15])"
@@ -46,17 +57,16 @@ class Kinds(Tally):
 
     def __init__(self) -> None:
         super().__init__()
-        self.kinds: dict[str, int] = {}
+        self.kinds = dict.fromkeys(KINDS, 0)
 
     def is_so(self, kind: str, name: str, good: object) -> None:
-        self.kinds[kind] = self.kinds.get(kind, 0) + 1
+        self.kinds[kind] += 1
         self.holds(f"{kind}: {name}", good)
 
-    def status_of(self, kinds: list[str]) -> int:
-        for kind in kinds:
-            if not self.kinds.get(kind):
-                self.is_so(kind, "nothing was found to check", False)
-        return self.status()
+    def status(self) -> int:
+        for kind, count in self.kinds.items():
+            self.add(kind, [] if count else ["nothing was found to check"])
+        return super().status()
 
 
 def tracked() -> list[str]:
@@ -73,46 +83,15 @@ def tracked() -> list[str]:
     ]
 
 
-def is_there(name: str, page: str) -> bool:
-    """Whether a page may name a file so: from the top, beside the page, from a crate, from a
-    crate's src/."""
-    folders = [
-        "",
-        os.path.dirname(page),
-        "crates",
-        "tests",
-        "tools",
-        "bench",
-        "man",
-        "contrib",
-        "commands",
-        "commands/bin",
-        "commands/lib/aide_compare",
-        "commands/lib/aide_compare/*",
-        "crates/*",
-        "crates/*/src",
-        "crates/*/src/*",
-        "crates/*/proofs",
-        "crates/*/specs",
-        "tests/*",
-        "tools/*",
-        "tests/program/*",
-        "tests/pages/*",
-        "tests/commands/*",
-        "packaging",
-        "examples/*",
-    ]
-    # packaging/install puts the folders of contrib/ that are examples into examples/ beside the
-    # documents.
-    installed = name.replace("examples/", "contrib/", 1)
-    return any(
-        glob.glob(os.path.join(TOP, folder, each))
-        for folder in folders
-        for each in (name, installed)
-    )
+def is_there(name: str, paths: list[str]) -> bool:
+    """Whether a file or a folder of the repository has this name, or one that ends with it.
+    packaging/install puts the folders of contrib/ that are examples into examples/ beside the
+    documents."""
+    names = (name, name.replace("examples/", "contrib/", 1))
+    return any(f"/{each}/" in f"/{path}/" for path in paths for each in names)
 
 
-def check_names(page: str, text: str, tally: Kinds) -> None:
+def check_names(page: str, text: str, paths: list[str], tally: Kinds) -> None:
     for target in re.findall(r"\]\(([^)#]+?)(?:#[^)]*)?\)", text):
         if "://" not in target:
             path = os.path.join(TOP, os.path.dirname(page), target)
@@ -121,7 +100,7 @@ def check_names(page: str, text: str, tally: Kinds) -> None:
     for name in sorted(set(NAMED.findall(plain)) | set(BELOW.findall(plain))):
         if "NAME" in name or "/out/" in name:
             continue
-        tally.is_so("file", f"{page}: {name}", is_there(name.rstrip("/"), page))
+        tally.is_so("file", f"{page}: {name}", is_there(name.rstrip("/"), paths))
 
 
 def check_copies(page: str, text: str, tally: Kinds) -> None:
@@ -220,10 +199,11 @@ def check_clauses(tally: Kinds) -> None:
 def main() -> int:
     parser_of("tests.source.check_docs", __doc__).parse_args()
     tally = Kinds()
-    for page in tracked():
+    paths = tracked()
+    for page in paths:
         if page.endswith(".md"):
             text = read(page)
-            check_names(page, text, tally)
+            check_names(page, text, paths, tally)
             check_copies(page, text, tally)
             check_blocks(page, tally)
     for name, text in headline_page.pages().items():
@@ -233,19 +213,7 @@ def main() -> int:
     check_promised(tally)
     check_clauses(tally)
     check_changes(tally)
-    return tally.status_of(
-        [
-            "link",
-            "file",
-            "copied code",
-            "block",
-            "written page",
-            "length",
-            "place of a definition",
-            "clause",
-            "kind of change",
-        ]
-    )
+    return tally.status()
 
 
 if __name__ == "__main__":
