@@ -93,7 +93,7 @@ class AttacksTest(CommandTest):
 
     def test_broken_off(self) -> None:
         """What breaks a comparison off is told as what it is, by the state too."""
-        failing = "def failing(*words):\n    raise %s\nWork.open_databases\nWork.open_databases = failing\n"
+        failing = "def failing(*words):\n    raise %s\nopen_databases\nopen_databases = failing\n"
         for raised, status, said in (
             ("MemoryError", 22, b"out of memory"),
             ("OSError(5, 'why')", 18, b"why"),

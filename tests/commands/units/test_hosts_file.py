@@ -11,8 +11,8 @@ class HostsFileTest(ModuleTest):
     def test_no_host(self) -> None:
         """The line names the command that adds one."""
         for name, text, why in (
-            ("missing", None, "there is no file of hosts {}"),
-            ("empty", "# none\n", "there is no host in the file {}"),
+            ("missing", None, "no host is in {}"),
+            ("empty", "# none\n", "no host is in {}"),
         ):
             path = f"{self.root}/{name}"
             if text is not None:

@@ -254,8 +254,7 @@ def compare_and_mail(request: MailRequest) -> int:
     except Fault as fault:
         subject = subject_of(state) if state.status else "no difference"
         alert(f"{fault.text}; {subject}")
-        text = f"{fault.text}; the comparison ended with status {state.status}"
-        raise Fault(fault.status, text)
+        raise Fault(fault.status, f"{fault.text}; the comparison ended with status {state.status}")
     if message:
         deliver(way, message)
     elif request.weekly and request.state:

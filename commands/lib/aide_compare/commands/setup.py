@@ -122,8 +122,7 @@ class Machine:
                 status = os.fstat(file)
                 is_single = stat.S_ISREG(status.st_mode) and status.st_nlink == 1
                 if not is_single or status.st_uid not in (0, self.user.pw_uid):
-                    text = f"{shown(path)} is no file of root's with one name"
-                    raise Fault(Status.DEVICE, text)
+                    raise Fault(Status.DEVICE, f"{shown(path)} is no file of root's with one name")
                 opened = reopened(file, os.O_RDONLY)
         with closed_after(opened):
             if not os.pread(opened, 10, 0).startswith(DATABASE_STARTS):
@@ -259,12 +258,10 @@ def main(arguments: Sequence[str]) -> int:
         os.dup2(os.open("/dev/null", os.O_WRONLY | os.O_CLOEXEC), 1)
     configurations = (PATHS.debian_configuration, PATHS.other_configuration)
     if not any(map(os.path.lexists, configurations)):
-        text = "AIDE is not installed here, or has no configuration"
-        text += "; on Debian: apt install aide-common"
+        text = "AIDE is not installed here, or not configured; on Debian: apt install aide-common"
         raise Fault(Status.DEVICE, text)
     if os.geteuid() != 0 and not request.is_check:
-        text = "only root can set this up; --check is for everybody"
-        raise Fault(Status.USAGE, text)
+        raise Fault(Status.USAGE, "only root can set this up; --check is for everybody")
     os.chdir("/")  # Where the programs of the system work.
     machine = Machine(request)
     if request.is_check:

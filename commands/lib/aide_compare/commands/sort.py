@@ -87,8 +87,7 @@ def lines_of(copy: Copy) -> Iterator[tuple[int, bytes, bytes]]:
 def key_in(layout: Layout, number: int, line: bytes) -> bytes:
     """The key of the entry in a line."""
     if not layout.columns:
-        text = f"line {number}: an entry before @@db_spec, or no column name"
-        raise Fault(Status.DATABASE, text)
+        raise Fault(Status.DATABASE, f"line {number}: an entry before @@db_spec, or no column name")
     key = layout.key_of(line)
     if key is None:
         raise Fault(Status.DATABASE, f"line {number}: no path")

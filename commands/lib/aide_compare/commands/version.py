@@ -10,7 +10,7 @@ from aide_compare import VERSION
 from aide_compare.base.ending import Fault, Status, tell
 from aide_compare.base.escapes import shown
 from aide_compare.base.files import read_file
-from aide_compare.base.options import QUIET, Asked, field
+from aide_compare.base.options import Asked
 from aide_compare.base.parser import read
 from aide_compare.base.program import LINES, NEWER, PROGRAM, find_installed, installed_builds
 
@@ -28,21 +28,14 @@ that built it, and whether it is a proved build."""
 EPILOG = "Status: 0 printed; 15 bad arguments; 18 a program cannot be read."
 
 
-class VersionRequest(Asked):
-    """What the options ask for."""
-
-    is_quiet: bool = field(QUIET, help="print the version alone")
-
-
 def record_of(program: str) -> dict[str, str]:
     """What the record beside a program says; nothing if there is none that can be read."""
     record = {}
     with suppress(Fault):
         text = read_file(program + RECORD, MAX_RECORD, "the record ").decode("utf-8", "replace")
         for line in text.splitlines():
-            name, equals, value = line.partition("=")
-            if equals:
-                record[name] = value
+            name, _, value = line.partition("=")
+            record[name] = value
     return record
 
 
@@ -77,10 +70,8 @@ def program_lines(title: str, name: str) -> Iterator[str]:
 
 
 def main(arguments: Sequence[str]) -> int:
-    request = read(VersionRequest, arguments, NAME, DESCRIPTION, EPILOG)
-    lines = [f"aide-compare {VERSION}"]
-    if not request.is_quiet:
-        lines += program_lines("program", PROGRAM)
-        lines += program_lines("program of lines", LINES)
-    tell(*lines)
+    read(Asked, arguments, NAME, DESCRIPTION, EPILOG)
+    programs = program_lines("program", PROGRAM)
+    lines = program_lines("program of lines", LINES)
+    tell(f"aide-compare {VERSION}", *programs, *lines)
     return Status.OK

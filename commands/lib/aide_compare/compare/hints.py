@@ -66,12 +66,6 @@ def _database_hints(side: str, number: int, words: bytes, copy: Copy) -> Iterato
     yield from CAUSES.get(words, ())
 
 
-def _configuration_hints(number: int, text: bytes) -> Iterator[str]:
-    line = dict(enumerate(text.split(b"\n"), 1)).get(number, b"")
-    if line.strip():
-        yield f"line {number}: {shown(line, 200)}"
-
-
 def hints_of(
     errors: bytes, texts: ConfigurationTexts, path: str, copies: Mapping[str, Copy]
 ) -> list[str]:
@@ -93,7 +87,10 @@ def hints_of(
         "config": (f"the configuration is {shown(path)}", texts.config),
     }
     name, text = places[where]
-    return [name, *_configuration_hints(number, text)]
+    line = dict(enumerate(text.split(b"\n"), 1)).get(number, b"")
+    if not line.strip():
+        return [name]
+    return [name, f"line {number}: {shown(line, 200)}"]
 
 
 def skipped_in(errors: bytes, copies: Mapping[str, Copy]) -> dict[str, list[str]]:

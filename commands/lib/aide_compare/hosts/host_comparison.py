@@ -149,8 +149,7 @@ def keep_comparison(directory: HostDirectory, request: HostsRequest) -> State:
         cause = directory.fetch_cause() or "see aide-compare hosts compare --help"
         raise Fault(Status.DEVICE, f"nothing was fetched yet: {cause}")
     if not directory.has(BASELINE):
-        text = "there is no baseline yet; see aide-compare hosts add --help"
-        raise Fault(Status.DEVICE, text)
+        raise Fault(Status.DEVICE, "there is no baseline yet; see aide-compare hosts add --help")
     with closing(NewFile(directory.fd)) as part:
         comparison = run_comparison(directory, request, part)
         directory.remove(LINES)

@@ -10,21 +10,19 @@ from aide_compare.base.replacement import replace
 
 MAX_BYTES = 16 << 20
 WHAT = "the file of hosts "
-CURE = "aide-compare hosts add adds one"
 
 
 def hosts_of(path: str) -> list[str]:
     """The names in a file, each once."""
+    data = b""
     if path == "-":
         data = read_whole(0, MAX_BYTES, WHAT)
-    elif is_missing(path):
-        raise Fault(Status.DEVICE, f"there is no file of hosts {shown(path)}: {CURE}")
-    else:
+    elif not is_missing(path):
         data = read_file(path, MAX_BYTES, WHAT)
     lines = [line.strip() for line in data.decode("utf-8", "surrogateescape").split("\n")]
     names = list(dict.fromkeys(line for line in lines if line and not line.startswith("#")))
     if not names:
-        raise Fault(Status.DEVICE, f"there is no host in the file {shown(path)}: {CURE}")
+        raise Fault(Status.DEVICE, f"no host is in {shown(path)}: aide-compare hosts add adds one")
     return names
 
 

@@ -2,7 +2,7 @@
 from __future__ import annotations
 
 import os
-from collections.abc import Iterable, Iterator
+from collections.abc import Iterable
 from typing import TYPE_CHECKING
 
 from aide_compare.base.ending import ReaderGone
@@ -13,20 +13,14 @@ if TYPE_CHECKING:
     from aide_compare.compare.comparison import Comparison
 
 
-def _left_out(comparison: Comparison) -> Iterator[str]:
-    """How many changes each line of the list leaves out."""
-    exclusions = comparison.request.exclusions
-    for number, count in sorted(comparison.left_out.items()):
-        if exclusions:
-            words = exclusions.lines[number - 1].words()
-            yield f"left out by {words}: {counted(count, 'change')}"
-
-
 def _notes_of(comparison: Comparison, verbose: bool) -> list[str]:
     """What was not compared: with `verbose` how many changes each line of a list has left out."""
     notes = list(comparison.notes)
-    if verbose:
-        notes.extend(_left_out(comparison))
+    exclusions = comparison.request.exclusions
+    if verbose and exclusions:
+        for number, count in sorted(comparison.left_out.items()):
+            words = exclusions.lines[number - 1].words()
+            notes.append(f"left out by {words}: {counted(count, 'change')}")
     return notes
 
 
@@ -74,5 +68,5 @@ def told_of(comparison: Comparison, quiet: bool = False, verbose: bool = False) 
 
 
 def _ours(texts: Iterable[str]) -> list[str]:
-    """ConfigurationTexts as lines of the command itself."""
+    """Texts as lines of the command itself."""
     return [f"aide-compare: {guarded(text)}" for text in texts]

@@ -15,8 +15,8 @@ def result_text(state: State) -> str:
         text = f"{state.added} added, {state.removed} removed, {state.changed} changed"
         if state.standings:
             text = f"{state.standings.words()}: {text}"
-        if state.standings and state.standings.left_out:
-            text += f"; {state.standings.left_out_words()}"
+            if state.standings.left_out:
+                text += f"; {state.standings.left_out_words()}"
     if state.skipped:
         text += f"; {not_compared(state.skipped)}"
     return text
