@@ -222,38 +222,67 @@ class InstallingTest(InstallTest):
         self.assertEqual((done.status, "--uninstall" in done.output_text), (0, True), done)
         self.assertIn("13 minutes", done.output_text)
 
-    def test_build(self) -> None:
-        """A program that is not built, or that is old, is built first."""
-        source, folder = self.copy("unbuilt"), self.path("built")
-        built, lines_built = (
-            os.path.join(source, f"crates/{name}/out/{name}") for name in ("aide", "aide_lines")
-        )
+    def unbuilt(self) -> tuple[str, dict[str, str]]:
+        """A copy in which nothing is built, and an environment with an rt that notes its calls."""
+        source = self.copy("unbuilt")
         for name in ("aide", "aide_lines"):
             self.write(f"unbuilt/crates/{name}/src/main.rt", "//! A program.\n")
         # Built before a source of aide_patterns was written, which three of these stand on.
         for name in libraries():
             os.utime(self.write(f"unbuilt/crates/{name}/out/rlib/{name}.rlib", ""), (1, 1))
         self.write("unbuilt/crates/aide_patterns/src/lib.rt", "//! Patterns.\n")
-        calls, programs = self.path("calls"), os.path.dirname(self.program)
-        note = f'echo "$PWD $*" >> "{calls}"'
+        programs = os.path.dirname(self.program)
+        note = f'echo "$PWD $*" >> "{self.path("calls")}"'
         put = f'mkdir -p out && cp "{programs}/${{PWD##*/}}" out/'
         self.write("stubs/rt", f"#!/bin/sh\n{note}\n{put}\necho crate aide_attr: x\n", 0o755)
         shutil.copytree(os.path.join(TOP, "tools/source"), os.path.join(source, "tools/source"))
         shutil.copy(os.path.join(TOP, "crates.txt"), source)
+        return source, dict(os.environ, PATH=self.path("stubs") + ":" + self.plain_path)
+
+    def built(self) -> list[str]:
+        """The crates of the programs that rt was asked for since the last call."""
+        with open(self.path("calls")) as file:
+            lines = file.read().splitlines()
+        self.write("calls", "")
+        return [
+            os.path.basename(line.removesuffix(" run -- -D -c /dev/null"))
+            for line in lines
+            if " run " in line
+        ]
+
+    def test_first_command(self) -> None:
+        """A comparison in a clone proves and builds the program of lines, an option the other."""
+        source, surroundings = self.unbuilt()
+        shutil.copy2(os.path.join(TOP, "compare"), source)
+        self.write("calls", "")
+        for words, status, wanted in (
+            ((), 7, ["aide_lines"]),
+            ((), 7, []),
+            (("--report",), 7, ["aide"]),
+            ((), 7, []),
+        ):
+            pair = [os.path.join(TOP, "examples/small_tree", name) for name in ("old.db", "new.db")]
+            done = self.run_words(
+                [os.path.join(source, "compare"), *words, *pair], env=surroundings
+            )
+            self.assertEqual((done.status, self.built()), (status, wanted), (words, done))
+
+    def test_build(self) -> None:
+        """A program that is not built, or that is old, is built first."""
+        source, surroundings = self.unbuilt()
+        folder = self.path("built")
+        built, lines_built = (
+            os.path.join(source, f"crates/{name}/out/{name}") for name in ("aide", "aide_lines")
+        )
         done = self.install("--destdir", folder, source=source, env=self.plain())
         self.refuses("no program and no rt", folder, done, "rt", "--program")
-        surroundings = dict(os.environ, PATH=self.path("stubs") + ":" + self.plain_path)
         both = ["aide_lines", "aide"]
         nothing: list[str] = []
         for old, wanted in (("", both), ("", nothing), (built, both[1:]), (lines_built, both[:1])):
             if old:
                 os.utime(old, (1, 1))
-            self.write("calls", "")
             done = self.install("--destdir", folder, source=source, env=surroundings)
-            with open(calls) as file:
-                lines = [line for line in file.read().splitlines() if " run " in line]
-            called = [f"{source}/crates/{crate} run -- -D -c /dev/null" for crate in wanted]
-            self.assertEqual((done.status, lines), (0, called), done)
+            self.assertEqual((done.status, self.built()), (0, wanted), done)
             self.assertEqual("13 minutes" in done.error_text, bool(wanted), "it says how long")
             steps = done.error_text.count("\n  1 of 5 crates proved, 0 min: aide_attr\n")
             self.assertEqual(steps, len(wanted), done)
