@@ -97,7 +97,7 @@ class CompareRequest(Asked):
     )
     only: Pattern | None = option(
         "--only",
-        "print the changes of these paths alone, as '/etc/**', with their values",
+        "print only the changes of these paths, as '/etc/**', with their values",
         "PATTERN",
         kind=pattern,
     )

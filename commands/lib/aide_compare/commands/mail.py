@@ -79,7 +79,7 @@ def refuse_contradictions(request: MailRequest, given: Given) -> None:
     """Refuses what means nothing without another word, or with it."""
     checked(given)
     if "weekly" in given and not request.state:
-        text = "--weekly needs --state, beside which a file says when the last one was sent"
+        text = "--weekly needs --state: a file next to it says when the last one was sent"
         raise Fault(Status.USAGE, text)
     if request.unit_failed and not request.send_queue:
         raise Fault(Status.USAGE, "--unit-failed needs --send-queue")
