@@ -177,7 +177,12 @@ class ArchiveTest(ArchiveCase):
             self.not_made(b"--from names no signed index", sources=sources)
         keep_indexes(self, f"lists/{SITE}")
         known = [APTS_LISTS + f"{SITE}{name}".encode() for name in INDEXES]
+        packed = known[1] + b".lz4"
         del place.old.entries[known[1]]
+        place.old.file(packed, ONE)
+        os.rename(self.path(f"lists/{SITE}{INDEXES[1]}"), self.path("packed.lz4"))
+        self.not_made(b"_Packages: No such file", sources=both)
+        del place.old.entries[packed]
         self.applied(sources=both, told=b"no signed index has it: tool\n")
         del place.old.entries[known[0]]
         self.not_made(b"--from names no signed index", sources=both)

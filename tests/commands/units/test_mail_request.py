@@ -90,7 +90,8 @@ class MailRequestTest(ModuleTest):
         what both say."""
         lines = b"--databases o  n\n--state s\n--weekly Tue\n--exclude /a\n"
         self.write("defaults", lines)
-        comparison = self.asks("--exclude /b", state="s", weekly="Tue")
+        missing = ["there is no baseline o: as root, aide-compare setup makes it"]
+        comparison = self.asks("--exclude /b", state="s", weekly="Tue", notes=missing)
         got = (comparison.databases, comparison.state, comparison.exclude)
         self.assertEqual(got, (["o", "n"], "s", ["/a", "/b"]))
         comparison = self.asks("--state t x y", state="t", weekly="Tue")

@@ -120,10 +120,11 @@ def releases_of(directories: Iterable[str], known: Collection[str]) -> list[Rele
 
 def has_index(release: Release, path: str) -> bool:
     """Whether an index is read: if a mirror has it, or if the old database knows it, which must be
-    there then."""
+    there then, not packed with lz4: without it an older package could be the newest one."""
     if release.indexes is None:
         return os.path.isfile(path)
-    return os.path.basename(path) in release.indexes
+    name = os.path.basename(path)
+    return name in release.indexes or f"{name}.lz4" in release.indexes
 
 
 def packages_of(release: Release, keys: int) -> Iterator[Signed]:

@@ -71,7 +71,9 @@ def program_lines(title: str, name: str) -> Iterator[str]:
 
 def main(arguments: Sequence[str]) -> int:
     read(Asked, arguments, NAME, DESCRIPTION, EPILOG)
-    programs = program_lines("program", PROGRAM)
-    lines = program_lines("program of lines", LINES)
-    tell(f"aide-compare {VERSION}", *programs, *lines)
+    tell(
+        f"aide-compare {VERSION}",
+        *program_lines("program", PROGRAM),
+        *program_lines("program of lines", LINES),
+    )
     return Status.OK

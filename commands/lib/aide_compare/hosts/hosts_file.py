@@ -1,8 +1,6 @@
 """The file of hosts: the name of a watched host in each line."""
 from __future__ import annotations
 
-import os
-
 from aide_compare.base.ending import Fault, Status
 from aide_compare.base.escapes import shown
 from aide_compare.base.files import is_missing, read_file, read_whole
@@ -30,7 +28,7 @@ def lines_without(host: str, path: str) -> tuple[list[bytes], bool]:
     """The lines of a file without those of a host, and whether there was one. The last one is
     empty if the file has an end of its last line, or is missing."""
     lines = [b""]
-    if os.path.lexists(path):
+    if not is_missing(path):
         lines = read_file(path, MAX_BYTES, WHAT).split(b"\n")
     kept = [line for line in lines if line.strip() != host.encode()]
     return kept, kept != lines
