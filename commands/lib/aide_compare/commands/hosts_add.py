@@ -1,5 +1,5 @@
-"""aide-compare hosts add: fetches the first database of a host, asks whether it is right, or is told
-its SHA-256, and watches the host from then on."""
+"""aide-compare hosts add: fetches the first database of a host, asks whether it is right, or is
+given its SHA-256, and watches the host from then on."""
 from __future__ import annotations
 
 import os
