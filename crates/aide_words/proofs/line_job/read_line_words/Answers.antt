@@ -3,7 +3,7 @@ use Rattle.clap.specs.Faults.{is_simple_and_free}
 use Rattle.clap.specs.Simple.{is_simple}
 use Rattle.clap.specs.Words.{app_of, found_of, rows_of}
 use Rattle.aide_words.specs.LineJob.{line_command}
-use Rattle.aide_words.proofs.BesideLemmas.{line_command_is_free, line_command_is_simple, job_of_options, job_that_was_made}
+use Rattle.aide_words.proofs.LineJobLemmas.{line_command_is_free, line_command_is_simple, job_of_options, job_that_was_made}
 use Rattle.aide_words.proofs.JobLemmas.{matched_by}
 use Rattle.aide_words.proofs.line_job.read_line_words.Goals as goal
 
