@@ -12,7 +12,7 @@ use Rattle.aide_report.specs.Runs.{report_over}
 use Rattle.aide_merge.specs.declared.run_fault.RunFault.{RunFault}
 use Rattle.aide_merge.specs.declared.run_fault.RunFault.TheVariants.{Database}
 use Rattle.aide_report.proofs.MissingLemmas.{RunsOver-exists}
-use Rattle.aide_line_run.specs.BesideRuns.{RunsBeside}
+use Rattle.aide_line_run.specs.RunEnds.{RunsLines}
 use Rattle.aide_line_run.specs.Listed.{ListRead}
 use Rattle.aide_line_run.specs.declared.pair_fault.PairFault.{PairFault}
 use Rattle.aide_line_run.specs.declared.pair_fault.PairFault.TheVariants.{Compared, Trusted}
@@ -32,7 +32,7 @@ module _ (limits : Limits) (wish : Asked) (old new : List ℕ) where
 pub right_is_the_answer : (limits : Limits) (list : ListRead) (wish trusted_wish : Asked) (old new trusted_old trusted_new : List ℕ)
     (right : Result Report PairFault) → 14 ≤ limits.line
     → IsRightLineAnswer limits list wish trusted_wish old new trusted_old trusted_new right
-    → RunsBeside limits list wish trusted_wish (Some old) (Some new) (Some trusted_old) (Some trusted_new) right
+    → RunsLines limits list wish trusted_wish (Some old) (Some new) (Some trusted_old) (Some trusted_new) right
 right_is_the_answer limits list wish trusted_wish old new trusted_old trusted_new (Ok report) least is = record {
   compared = Ok (report_over wish old new);
   trusted = Ok (report_over trusted_wish trusted_old trusted_new);

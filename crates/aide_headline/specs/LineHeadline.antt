@@ -7,7 +7,7 @@ use Rattle.aide_db.specs.declared.side.Side.TheVariants.{Old, New}
 use Rattle.aide_merge.specs.Asked.{Asked}
 use Rattle.aide_merge.specs.RightAnswer.{IsFirstFaultOf, Report}
 use Rattle.aide_merge.specs.declared.run_fault.RunFault.TheVariants.{Database}
-use Rattle.aide_line_run.specs.BesideLines.{lines_beside}
+use Rattle.aide_line_run.specs.Lines.{lines_of_texts}
 use Rattle.aide_line_run.specs.Listed.{ListRead}
 use Rattle.aide_line_run.specs.declared.pair_fault.PairFault.{PairFault}
 use Rattle.aide_line_run.specs.declared.pair_fault.PairFault.TheVariants.{Compared, Trusted}
@@ -25,7 +25,7 @@ abbrev pub IsRightLineAnswer : Limits → ListRead → (asked trusted_asked : As
 IsRightLineAnswer limits list asked trusted_asked old new trusted_old trusted_new (Ok report) =
     IsSound limits old × IsSound limits new
     × IsSound limits trusted_old × IsSound limits trusted_new
-    × (report ≡ lines_beside list asked trusted_asked old new trusted_old trusted_new)
+    × (report ≡ lines_of_texts list asked trusted_asked old new trusted_old trusted_new)
 IsRightLineAnswer limits list asked trusted_asked old new trusted_old trusted_new
     (Err (Compared fault)) =
     (first : DbFault) × (fault ≡ Database first) × IsFirstOfPair limits old new first

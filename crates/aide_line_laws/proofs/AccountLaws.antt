@@ -18,7 +18,7 @@ use Rattle.aide_entry.specs.Attributes.{sides_between}
 use Rattle.aide_line_text.specs.declared.account.Account.TheVariants.{Trusted}
 use Rattle.aide_merge.specs.Changed.{differ_by}
 use Rattle.aide_merge.specs.Said.{all_listed, is_in}
-use Rattle.aide_line_run.specs.BesideLines.{by_trusted}
+use Rattle.aide_line_run.specs.Lines.{by_trusted}
 use Rattle.aide_line_run.specs.Listed.{Leaves, account_by}
 use Rattle.aide_line_laws.specs.OverMaps.{no_entries}
 use Rattle.aide_line_laws.proofs.ListLaws.{by_pairs}

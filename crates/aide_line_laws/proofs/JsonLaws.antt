@@ -1,4 +1,4 @@
--- The lines of two databases beside a trusted pair: they are lines of JSON, a reader finds in them the paths and digests of
+-- The lines of two databases with a trusted pair: they are lines of JSON, a reader finds in them the paths and digests of
 -- all four, and without their last line they are never complete.
 use Rattle.std.proofs.Common.{◌≡◌, ◌∙◌, ◌∷◌, ◌++◌, Err, List, Ok, Some, [], ap, append_assoc, false, refl, rules, true, ℕ}
 use Rattle.std.proofs.Common.{if◌then◌else◌, Option}
@@ -22,9 +22,9 @@ use Rattle.aide_merge.specs.Said.{all_listed, is_in}
 use Rattle.aide_merge.specs.Seen.{SinkSeen}
 use Rattle.aide_merge.specs.declared.outcome.Outcome.{Outcome}
 use Rattle.aide_merge.specs.declared.run_fault.RunFault.TheVariants.{Open, Database, Changed, Write}
-use Rattle.aide_line_run.specs.BesideLines.{BeginsBeside, all_lines_beside, by_texts, closing_beside, facts_of_texts, lines_beside}
-use Rattle.aide_line_run.specs.BesideLines.{opening_beside}
-use Rattle.aide_line_run.specs.BesideRuns.{AreAllSound, CutsBeside, changes_between}
+use Rattle.aide_line_run.specs.Lines.{BeginsLines, lines_framed, by_texts, last_line, facts_of_texts, lines_of_texts}
+use Rattle.aide_line_run.specs.Lines.{first_line}
+use Rattle.aide_line_run.specs.RunEnds.{AreAllSound, CutsLines, changes_between}
 use Rattle.aide_line_run.specs.Listed.{ListRead, leaves_between}
 use Rattle.aide_line_run.specs.PairSeen.{Gives, PairSeen}
 use Rattle.aide_line_run.specs.LinesRun.{IsLinesRun}
@@ -37,7 +37,7 @@ use Rattle.aide_line_laws.specs.Field.{Field, text_field}
 use Rattle.aide_line_laws.specs.Fields.{closing_fields_trusted, opening_fields_trusted}
 use Rattle.aide_line_laws.specs.JsonLine.{AreJsonLines}
 use Rattle.aide_line_laws.specs.Reading.{text_under}
-use Rattle.aide_line_laws.specs.TextFields.{change_fields, fields_begun, fields_beside}
+use Rattle.aide_line_laws.specs.TextFields.{change_fields, fields_begun, fields_of_texts}
 use Rattle.aide_line_laws.proofs.CompleteLaws.{IsNoEnd, complete_by, never_begins, no_end, only_all, sent_begins}
 use Rattle.aide_line_laws.proofs.EndLaws.{closing_line_trusted_is_json, opening_line_trusted_is_json}
 use Rattle.aide_line_laws.proofs.Laws.{change_line_is_json}
@@ -51,16 +51,16 @@ ArePathsOfBytes asked = AreBytes asked.old_path × AreBytes asked.new_path
 
 -- ---- lines of JSON
 
--- The lines over two sound texts of bytes beside a trusted pair are lines of JSON, whatever is asked and whatever the
+-- The lines over two sound texts of bytes with a trusted pair are lines of JSON, whatever is asked and whatever the
 -- trusted texts and the rules of the list are: each has the members that belong to the changes of the two databases, in
 -- their order, and says what accounts for its change by the trusted maps and by the list.
-pub lines_beside_are_json : (limits : Limits) (list : ListRead) (wish trusted : Asked) (old new trusted_old trusted_new : List ℕ)
+pub lines_are_json : (limits : Limits) (list : ListRead) (wish trusted : Asked) (old new trusted_old trusted_new : List ℕ)
     → IsSound limits old → IsSound limits new → AreBytes old → AreBytes new → ArePathsOfBytes wish → ArePathsOfBytes trusted
     → AreBytes list.digest
-    → AreJsonLines (lines_beside list wish trusted old new trusted_old trusted_new).text
-    (fields_beside list wish trusted old new trusted_old trusted_new)
-unfolding lines_beside all_lines_beside
-lines_beside_are_json limits list wish trusted old new trusted_old trusted_new old_sound new_sound old_bytes new_bytes paths
+    → AreJsonLines (lines_of_texts list wish trusted old new trusted_old trusted_new).text
+    (fields_of_texts list wish trusted old new trusted_old trusted_new)
+unfolding lines_of_texts lines_framed
+lines_are_json limits list wish trusted old new trusted_old trusted_new old_sound new_sound old_bytes new_bytes paths
     others digest =
     search (rules, all_lines_are_json, changes_bytes, opening_line_trusted_is_json, closing_line_trusted_is_json, sha256_bytes)
 
@@ -96,13 +96,13 @@ all_accounted_are_json options (each ∷ all) h =
 -- ---- what is read back
 
 -- In the first line what is under each name is the configured path.
-pub paths_beside_are_read_back : (old_path new_path trusted_old trusted_new : List ℕ) → AreBytes old_path → AreBytes new_path
+pub paths_are_read_back : (old_path new_path trusted_old trusted_new : List ℕ) → AreBytes old_path → AreBytes new_path
     → AreBytes trusted_old → AreBytes trusted_new
     → (text_under (codes "old") (opening_fields_trusted old_path new_path trusted_old trusted_new) ≡ Some old_path)
     × (text_under (codes "new") (opening_fields_trusted old_path new_path trusted_old trusted_new) ≡ Some new_path)
     × (text_under (codes "trusted_old") (opening_fields_trusted old_path new_path trusted_old trusted_new) ≡ Some trusted_old)
     × (text_under (codes "trusted_new") (opening_fields_trusted old_path new_path trusted_old trusted_new) ≡ Some trusted_new)
-paths_beside_are_read_back old_path new_path trusted_old trusted_new h k l m =
+paths_are_read_back old_path new_path trusted_old trusted_new h k l m =
     let last = text_field (codes "trusted_new") trusted_new ∷ [] in
     let third = text_field (codes "trusted_old") trusted_old ∷ last in
     let second = text_field (codes "new") new_path ∷ third in (
@@ -131,7 +131,7 @@ paths_beside_are_read_back old_path new_path trusted_old trusted_new h k l m =
     )
 
 -- In the last line a reader finds the digests of all four, and of the list.
-pub digests_beside_are_read_back : (old new trusted_old trusted_new : ReadFacts) (list : List ℕ) (counts : LineCounts)
+pub digests_are_read_back : (old new trusted_old trusted_new : ReadFacts) (list : List ℕ) (counts : LineCounts)
     (status : ℕ)
     → AreBytes old.digest → AreBytes new.digest → AreBytes trusted_old.digest → AreBytes trusted_new.digest → AreBytes list
     → (digest_under (codes "old") (closing_fields_trusted old new trusted_old trusted_new list counts status) ≡ Some old.digest)
@@ -141,15 +141,15 @@ pub digests_beside_are_read_back : (old new trusted_old trusted_new : ReadFacts)
     × (digest_under (codes "trusted_new") (closing_fields_trusted old new trusted_old trusted_new list counts status)
     ≡ Some trusted_new.digest)
     × (digest_under (codes "list") (closing_fields_trusted old new trusted_old trusted_new list counts status) ≡ Some list)
-digests_beside_are_read_back old new trusted_old trusted_new list counts status h k l m n =
+digests_are_read_back old new trusted_old trusted_new list counts status h k l m n =
     search (rules, read_in_base_16)
 
 -- ---- which lines are complete
 
 -- The lines over four texts are complete.
-pub lines_beside_are_complete : (list : ListRead) (wish trusted : Asked) (old new trusted_old trusted_new : List ℕ)
-    → AreComplete (fields_beside list wish trusted old new trusted_old trusted_new)
-lines_beside_are_complete list wish trusted old new trusted_old trusted_new = search (rules, complete_by)
+pub lines_are_complete : (list : ListRead) (wish trusted : Asked) (old new trusted_old trusted_new : List ℕ)
+    → AreComplete (fields_of_texts list wish trusted old new trusted_old trusted_new)
+lines_are_complete list wish trusted old new trusted_old trusted_new = search (rules, complete_by)
 
 accounted_has_no_end : (options : Options) (all : List Accounted) → AllByRecursion IsNoEnd (all_accounted_fields options all)
 accounted_has_no_end options [] = tt
@@ -165,40 +165,40 @@ opening_is_no_end : (old_path new_path trusted_old trusted_new : List ℕ)
 opening_is_no_end old_path new_path trusted_old trusted_new = search (rules, past_text)
 
 -- What goes out before the last line, whatever the four texts are, does not begin with complete lines.
-pub begun_beside_is_never_complete : (wish trusted : Asked) (old new : List ℕ) (accounted : List Accounted)
+pub begun_lines_are_never_complete : (wish trusted : Asked) (old new : List ℕ) (accounted : List Accounted)
     → changes_of accounted ≡ changes_between old new → AreBytes old → AreBytes new → ArePathsOfBytes wish
     → ArePathsOfBytes trusted
     → (whole rest : List ℕ) (all : List (List Field)) → AreJsonLines whole all → AreComplete all
-    → opening_beside wish trusted ++ accounted_lines wish.options accounted ≡ whole ++ rest → ⊥
-begun_beside_is_never_complete wish trusted old new accounted same old_bytes new_bytes paths others =
+    → first_line wish trusted ++ accounted_lines wish.options accounted ≡ whole ++ rest → ⊥
+begun_lines_are_never_complete wish trusted old new accounted same old_bytes new_bytes paths others =
     let first = opening_fields_trusted wish.old_path wish.new_path trusted.old_path trusted.new_path in
-    never_begins (opening_beside wish trusted ++ accounted_lines wish.options accounted)
+    never_begins (first_line wish trusted ++ accounted_lines wish.options accounted)
     (first ∷ all_accounted_fields wish.options accounted)
-    (lines_both (opening_beside wish trusted) (accounted_lines wish.options accounted) (first ∷ [])
+    (lines_both (first_line wish trusted) (accounted_lines wish.options accounted) (first ∷ [])
     (all_accounted_fields wish.options accounted)
-    (one_line (opening_beside wish trusted) first
+    (one_line (first_line wish trusted) first
     (opening_line_trusted_is_json wish.old_path wish.new_path trusted.old_path trusted.new_path paths.0 paths.1 others.0 others.1))
     (all_accounted_are_json wish.options accounted (rw same (begun_bytes old new old_bytes new_bytes))))
     (opening_is_no_end wish.old_path wish.new_path trusted.old_path trusted.new_path, accounted_has_no_end wish.options accounted)
 
 -- Lines that are cut are not complete: the lines over four sound texts begin with no complete lines but themselves.
-pub cut_beside_is_never_complete : (limits : Limits) (list : ListRead) (wish trusted : Asked)
+pub cut_lines_are_never_complete : (limits : Limits) (list : ListRead) (wish trusted : Asked)
     (old new trusted_old trusted_new : List ℕ)
     → IsSound limits old → IsSound limits new → AreBytes old → AreBytes new → ArePathsOfBytes wish → ArePathsOfBytes trusted
     → AreBytes list.digest
     → (whole rest : List ℕ) (all : List (List Field)) → AreJsonLines whole all → AreComplete all
-    → (lines_beside list wish trusted old new trusted_old trusted_new).text ≡ whole ++ rest → rest ≡ []
-cut_beside_is_never_complete limits list wish trusted old new trusted_old trusted_new old_sound new_sound old_bytes new_bytes
+    → (lines_of_texts list wish trusted old new trusted_old trusted_new).text ≡ whole ++ rest → rest ≡ []
+cut_lines_are_never_complete limits list wish trusted old new trusted_old trusted_new old_sound new_sound old_bytes new_bytes
     paths others digest =
     let account = by_texts list old new trusted_old trusted_new in
     let counts = line_counts wish.options account (database_of old) (database_of new) in
     let all = changes (database_of old) (database_of new) in
-    only_all (lines_beside list wish trusted old new trusted_old trusted_new).text
+    only_all (lines_of_texts list wish trusted old new trusted_old trusted_new).text
     (fields_begun wish.options account
     (opening_fields_trusted wish.old_path wish.new_path trusted.old_path trusted.new_path) all)
     (closing_fields_trusted (read_of old) (read_of new) (read_of trusted_old) (read_of trusted_new) list.digest counts
     (status_by counts))
-    (lines_beside_are_json limits list wish trusted old new trusted_old trusted_new old_sound new_sound old_bytes new_bytes paths
+    (lines_are_json limits list wish trusted old new trusted_old trusted_new old_sound new_sound old_bytes new_bytes paths
     others digest) (
       opening_is_no_end wish.old_path wish.new_path trusted.old_path trusted.new_path,
       no_end wish.options account (listed_changes wish.options all),
@@ -207,16 +207,16 @@ cut_beside_is_never_complete limits list wish trusted old new trusted_old truste
 -- ---- runs
 
 -- Any fault but a failed write of the lines of four sound texts.
-abbrev pub LeavesUnfinishedBeside : Limits → (old new trusted_old trusted_new : List ℕ) → PairFault → Type 0
-LeavesUnfinishedBeside limits old new trusted_old trusted_new (Compared (Write written)) =
+abbrev pub LeavesUnfinished : Limits → (old new trusted_old trusted_new : List ℕ) → PairFault → Type 0
+LeavesUnfinished limits old new trusted_old trusted_new (Compared (Write written)) =
     AreAllSound limits old new trusted_old trusted_new → ⊥
-LeavesUnfinishedBeside limits old new trusted_old trusted_new _ = ⊤
+LeavesUnfinished limits old new trusted_old trusted_new _ = ⊤
 
 begun_at : (limits : Limits) (list : ListRead) (wish trusted : Asked) (old new trusted_old trusted_new : List ℕ)
     (before after : Option (List ℕ)) (fault : PairFault)
-    → CutsBeside limits list wish trusted old new trusted_old trusted_new before after fault
-    → LeavesUnfinishedBeside limits old new trusted_old trusted_new fault
-    → BeginsBeside (leaves_between list old new) wish trusted (changes_between old new)
+    → CutsLines limits list wish trusted old new trusted_old trusted_new before after fault
+    → LeavesUnfinished limits old new trusted_old trusted_new fault
+    → BeginsLines (leaves_between list old new) wish trusted (changes_between old new)
     (changes_between trusted_old trusted_new) before after
 begun_at limits list wish trusted old new trusted_old trusted_new before after (Compared (Write written)) cut left = cut.1 left
 begun_at limits list wish trusted old new trusted_old trusted_new before after (Compared (Open side)) cut left = cut
@@ -227,21 +227,21 @@ begun_at limits list wish trusted old new trusted_old trusted_new before after (
 module _ (limits : Limits) (list : ListRead) (p q : PairSeen) (o s : SinkSeen) (old new trusted_old trusted_new : List ℕ)
     (gives : Gives p old new) (trusted_gives : Gives q trusted_old trusted_new) where
   -- After such a fault a run has not sent complete lines.
-  pub no_fault_completes_lines_beside : (fault : PairFault) → IsLinesRun limits list p q o s (Err fault)
-      → LeavesUnfinishedBeside limits old new trusted_old trusted_new fault
+  pub no_fault_completes_lines : (fault : PairFault) → IsLinesRun limits list p q o s (Err fault)
+      → LeavesUnfinished limits old new trusted_old trusted_new fault
       → AreBytes old → AreBytes new → ArePathsOfBytes p.asked → ArePathsOfBytes q.asked
       → (before whole rest : List ℕ) (all : List (List Field)) → o.delivered ≡ Some before
       → s.delivered ≡ Some (before ++ (whole ++ rest)) → AreJsonLines whole all → AreComplete all → ⊥
-  no_fault_completes_lines_beside fault run left old_bytes new_bytes paths others before whole rest all was is h complete =
+  no_fault_completes_lines fault run left old_bytes new_bytes paths others before whole rest all was is h complete =
       let begun =
       begun_at limits list p.asked q.asked old new trusted_old trusted_new o.delivered s.delivered fault
       (run.cut old new trusted_old trusted_new gives trusted_gives) left
       in
       let begins =
-      sent_begins (opening_beside p.asked q.asked ++ accounted_lines p.asked.options begun.accounted) before (whole ++ rest)
+      sent_begins (first_line p.asked q.asked ++ accounted_lines p.asked.options begun.accounted) before (whole ++ rest)
       o.delivered s.delivered begun.part was is
       in
-      begun_beside_is_never_complete p.asked q.asked old new begun.accounted begun.all old_bytes new_bytes paths others
+      begun_lines_are_never_complete p.asked q.asked old new begun.accounted begun.all old_bytes new_bytes paths others
       whole (rest ++ begins.0) all h complete (begins.1 ∙ append_assoc whole rest begins.0)
 
   -- After `Ok` it has sent a last line in which a reader finds the SHA-256 of all four texts, and that of the list, if
@@ -250,13 +250,13 @@ module _ (limits : Limits) (list : ListRead) (p q : PairSeen) (o s : SinkSeen) (
       → (list_text : List ℕ) → list.digest ≡ sha256 list_text
       → EndsWithDigests ((codes "old", old) ∷ (codes "new", new) ∷ (codes "trusted_old", trusted_old)
       ∷ (codes "trusted_new", trusted_new) ∷ (codes "list", list_text) ∷ []) o.delivered s.delivered
-  unfolding lines_beside all_lines_beside
+  unfolding lines_of_texts lines_framed
   digests_are_of_all_texts outcome run list_text of_list =
       let digest : AreBytes list.digest = rw of_list (sha256_bytes list_text) in
       let account = by_texts list old new trusted_old trusted_new in
       let counts = line_counts p.asked.options account (database_of old) (database_of new) in
       let all = changes (database_of old) (database_of new) in
-      let lines = lines_beside list p.asked q.asked old new trusted_old trusted_new in
+      let lines = lines_of_texts list p.asked q.asked old new trusted_old trusted_new in
       let ends =
       run.over (Some old) (Some new) (Some trusted_old) (Some trusted_new) gives trusted_gives (Ok lines) (record {
         compared = Ok (report_over p.asked old new);
@@ -275,12 +275,12 @@ module _ (limits : Limits) (list : ListRead) (p q : PairSeen) (o s : SinkSeen) (
       })
       in
       let read =
-      digests_beside_are_read_back (read_of old) (read_of new) (read_of trusted_old) (read_of trusted_new) list.digest counts
+      digests_are_read_back (read_of old) (read_of new) (read_of trusted_old) (read_of trusted_new) list.digest counts
       (status_by counts) (sha256_bytes old) (sha256_bytes new) (sha256_bytes trusted_old) (sha256_bytes trusted_new) digest
       in
       record {
-        begun = opening_beside p.asked q.asked ++ change_lines p.asked.options account all;
-        last = closing_beside list (facts_of_texts old new trusted_old trusted_new) counts;
+        begun = first_line p.asked q.asked ++ change_lines p.asked.options account all;
+        last = last_line list (facts_of_texts old new trusted_old trusted_new) counts;
         fields = closing_fields_trusted (read_of old) (read_of new) (read_of trusted_old) (read_of trusted_new) list.digest
             counts (status_by counts);
         bytes = ends.1;

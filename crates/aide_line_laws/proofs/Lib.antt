@@ -16,7 +16,7 @@ pub mod NameLaws
 pub mod TextLaws
 pub mod Cutting
 pub mod CompleteLaws
-pub mod BesideLaws
+pub mod JsonLaws
 pub mod AccountLaws
 pub mod ListLaws
 pub mod MapLaws

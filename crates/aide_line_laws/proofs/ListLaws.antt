@@ -15,7 +15,7 @@ use Rattle.aide_line_text.specs.declared.account.Account.TheVariants.{LeftOut, O
 use Rattle.aide_patterns.specs.Line.{RuleText}
 use Rattle.aide_line_run.specs.ChangeLines.{Accounts}
 use Rattle.aide_merge.specs.Said.{PathChange}
-use Rattle.aide_line_run.specs.BesideLines.{by_texts, by_trusted, lines_beside}
+use Rattle.aide_line_run.specs.Lines.{by_texts, by_trusted, lines_of_texts}
 use Rattle.aide_line_run.specs.Listed.{ListRead, account_by, leaves_between, measures_between}
 use Rattle.aide_merge.specs.Asked.{Asked}
 use Rattle.aide_line_laws.specs.Field.{Field, count_json}
@@ -70,9 +70,9 @@ module _ (list : ListRead) (old new trusted_old trusted_new : List ℕ) where
 
   -- The outcome, and with it the status, never depends on the list.
   pub outcome_is_without_list : (other : ListRead) (asked trusted : Asked)
-      → (lines_beside list asked trusted old new trusted_old trusted_new).outcome
-      ≡ (lines_beside other asked trusted old new trusted_old trusted_new).outcome
-  unfolding lines_beside
+      → (lines_of_texts list asked trusted old new trusted_old trusted_new).outcome
+      ≡ (lines_of_texts other asked trusted old new trusted_old trusted_new).outcome
+  unfolding lines_of_texts
   outcome_is_without_list other asked trusted = refl
 
 -- ---- one account for each line

@@ -30,13 +30,13 @@ use Rattle.aide_merge.specs.Compare.{changes, compared}
 use Rattle.aide_merge.specs.Said.{PathChange}
 use Rattle.aide_merge.specs.Said.{all_listed, is_in}
 use Rattle.aide_merge.proofs.MergeLemmas.{and_first, and_second, get-compared, lt_less, paired}
-use Rattle.aide_line_run.specs.BesideLines.{by_texts}
+use Rattle.aide_line_run.specs.Lines.{by_texts}
 use Rattle.aide_line_run.specs.Listed.{ListRead, account_by}
 use Rattle.aide_line_laws.specs.ByteValues.{AreBytes}
 use Rattle.aide_line_laws.specs.Field.{Field}
 use Rattle.aide_line_laws.specs.OverMaps.{AreApart, HappenedThere, IsAbout, IsAccount, IsFramed, IsOneOf, LeavesOut, SayAll}
 use Rattle.aide_line_laws.specs.OverMaps.{SaysOne, StayedAsOld, differ_beyond, left_out_of}
-use Rattle.aide_line_laws.specs.TextFields.{change_fields, fields_beside}
+use Rattle.aide_line_laws.specs.TextFields.{change_fields, fields_of_texts}
 use Rattle.aide_line_laws.proofs.ReadingLaws.{account_is_read_back, path_is_read_back}
 use Rattle.aide_line_laws.proofs.TextLaws.{IsChangeOfBytes, changes_bytes}
 
@@ -322,7 +322,7 @@ module _ (options : Options) (old new : Database) (there : List ℕ → Pair) (l
 
 -- ---- texts
 
--- What is said beside a trusted pair and a list to account for a change does, and is said if it does.
+-- What is said with a trusted pair and a list to account for a change does, and is said if it does.
 pub by_texts_is_account : (list : ListRead) (old new trusted_old trusted_new : List ℕ) (change : PathChange)
     → IsAccount change.1 (get (database_of trusted_old) change.0, get (database_of trusted_new) change.0)
     (left_out_of list old new change.0 change.1) (by_texts list old new trusted_old trusted_new change)
@@ -331,12 +331,12 @@ by_texts_is_account list old new trusted_old trusted_new change =
 
 -- The lines over four texts, of which the first two are sound and of bytes, say all by what the trusted texts have and by
 -- what the list leaves out.
-pub lines_beside_say_all : (limits : Limits) (list : ListRead) (wish trusted : Asked) (old new trusted_old trusted_new : List ℕ)
+pub lines_of_texts_say_all : (limits : Limits) (list : ListRead) (wish trusted : Asked) (old new trusted_old trusted_new : List ℕ)
     → IsSound limits old → IsSound limits new → AreBytes old → AreBytes new
-    → (lines : List (List Field)) × IsFramed lines (fields_beside list wish trusted old new trusted_old trusted_new)
+    → (lines : List (List Field)) × IsFramed lines (fields_of_texts list wish trusted old new trusted_old trusted_new)
     × SayAll wish.options.ignore (database_of old) (database_of new)
     (λ path. (get (database_of trusted_old) path, get (database_of trusted_new) path)) (left_out_of list old new) lines
-lines_beside_say_all limits list wish trusted old new trusted_old trusted_new old_sound new_sound old_bytes new_bytes = (
+lines_of_texts_say_all limits list wish trusted old new trusted_old trusted_new old_sound new_sound old_bytes new_bytes = (
   _,
   record { first = _; last = _; parts = refl },
   lines_say_all wish.options (database_of old) (database_of new)

@@ -7,15 +7,15 @@ use Rattle.aide_db.specs.declared.side.Side.TheVariants.{Old, New}
 use Rattle.aide_report.specs.Runs.{report_over}
 use Rattle.aide_merge.specs.Seen.{SinkSeen}
 use Rattle.aide_merge.specs.declared.outcome.Outcome.{Outcome}
-use Rattle.aide_line_run.specs.BesideLines.{lines_beside}
+use Rattle.aide_line_run.specs.Lines.{lines_of_texts}
 use Rattle.aide_line_run.specs.Listed.{ListRead}
 use Rattle.aide_line_run.specs.PairSeen.{Gives, PairSeen}
 use Rattle.aide_line_run.specs.LinesRun.{IsLinesRun}
 use Rattle.aide_line_laws.specs.ByteValues.{AreBytes}
 use Rattle.aide_line_laws.specs.OverMaps.{HasSaidAll, left_out_of, no_entries}
-use Rattle.aide_line_laws.specs.TextFields.{fields_beside}
-use Rattle.aide_line_laws.proofs.BesideLaws.{ArePathsOfBytes, lines_beside_are_complete, lines_beside_are_json}
-use Rattle.aide_line_laws.proofs.MapLaws.{lines_beside_say_all}
+use Rattle.aide_line_laws.specs.TextFields.{fields_of_texts}
+use Rattle.aide_line_laws.proofs.JsonLaws.{ArePathsOfBytes, lines_are_complete, lines_are_json}
+use Rattle.aide_line_laws.proofs.MapLaws.{lines_of_texts_say_all}
 use Rattle.aide_line_laws.proofs.NoEntries.{no_entries_are_none}
 
 -- After `Ok` a run over four texts of bytes has written lines that say all of the first two maps, by what the trusted two
@@ -32,7 +32,7 @@ a_trusted_run_says_all limits list p q o s old new trusted_old trusted_new gives
     digest outcome run =
     let old_sound = run.sound Old old gives.0 in
     let new_sound = run.sound New new gives.1 in
-    let lines = lines_beside list p.asked q.asked old new trusted_old trusted_new in
+    let lines = lines_of_texts list p.asked q.asked old new trusted_old trusted_new in
     let ends =
     run.over (Some old) (Some new) (Some trusted_old) (Some trusted_new) gives trusted_gives (Ok lines) (record {
       compared = Ok (report_over p.asked old new);
@@ -47,15 +47,15 @@ a_trusted_run_says_all limits list p q o s old new trusted_old trusted_new gives
     })
     in
     let says =
-    lines_beside_say_all limits list p.asked q.asked old new trusted_old trusted_new old_sound new_sound old_bytes new_bytes
+    lines_of_texts_say_all limits list p.asked q.asked old new trusted_old trusted_new old_sound new_sound old_bytes new_bytes
     in
     record {
       text = lines.text;
       bytes = ends.1;
-      all = fields_beside list p.asked q.asked old new trusted_old trusted_new;
-      are_lines = lines_beside_are_json limits list p.asked q.asked old new trusted_old trusted_new old_sound new_sound
+      all = fields_of_texts list p.asked q.asked old new trusted_old trusted_new;
+      are_lines = lines_are_json limits list p.asked q.asked old new trusted_old trusted_new old_sound new_sound
           old_bytes new_bytes paths others digest;
-      complete = lines_beside_are_complete list p.asked q.asked old new trusted_old trusted_new;
+      complete = lines_are_complete list p.asked q.asked old new trusted_old trusted_new;
       lines = says.0;
       framed = says.1;
       say = says.2;

@@ -8,7 +8,7 @@ use Rattle.aide_merge.specs.Compare.{changes}
 use Rattle.aide_merge.specs.Said.{PathChange, letters_of, shows_at}
 use Rattle.aide_line_run.specs.LineCounts.{line_counts, status_by}
 use Rattle.aide_line_run.specs.LinesRead.{read_of}
-use Rattle.aide_line_run.specs.BesideLines.{by_texts}
+use Rattle.aide_line_run.specs.Lines.{by_texts}
 use Rattle.aide_line_run.specs.Listed.{ListRead}
 use Rattle.aide_line_laws.specs.Field.{Field}
 use Rattle.aide_line_laws.specs.Fields.{closing_fields_trusted, opening_fields_trusted, path_fields}
@@ -31,10 +31,10 @@ fields_of_lines options account first last changes =
     fields_begun options account first changes ++ last ∷ []
 
 -- those of the lines over two texts with a trusted pair and a list
-abbrev pub fields_beside : ListRead → (asked trusted : Asked)
+abbrev pub fields_of_texts : ListRead → (asked trusted : Asked)
     → (old new trusted_old trusted_new : List ℕ)
     → List (List Field)
-fields_beside list asked trusted old new trusted_old trusted_new =
+fields_of_texts list asked trusted old new trusted_old trusted_new =
     let account = by_texts list old new trusted_old trusted_new in
     let counts = line_counts asked.options account (database_of old) (database_of new) in
     fields_of_lines asked.options account

@@ -1,4 +1,4 @@
--- How a run beside a trusted pair ends, by what has gone out and what was found of all four databases.
+-- How a run with a trusted pair ends, by what has gone out and what was found of all four databases.
 use Rattle.std.specs.Prelude.{◌≡◌, ◌⊎◌, ℕ, Option, Some, None, Result, Ok, Err, List, [], ◌∷◌, ◌++◌, map, true, false}
 use Rattle.std.proofs.Common.{◌∙◌, ap, append_assoc, inl, inr, refl, rules, subst, sym}
 use Rattle.std.proofs.lemmas.Grind.{flat_map-append}
@@ -33,14 +33,14 @@ use Rattle.aide_line_run.proofs.LineLaws.{tally_is}
 use Rattle.aide_line_run.proofs.LineRunLemmas.{texts_read}
 use Rattle.aide_line_run.proofs.OneReadingLemmas.{are_read}
 use Rattle.aide_merge.proofs.TextLemmas.{pass_is_changes}
-use Rattle.aide_line_run.specs.BesideLines.{BeginsBeside, all_lines_beside, by_texts, closing_beside, facts_of_texts}
-use Rattle.aide_line_run.specs.BesideLines.{lines_beside, opening_beside}
-use Rattle.aide_line_run.specs.BesideRuns.{AreAllSound, CutsBeside, RunsBeside, SendsWholeOf, answer_by}
+use Rattle.aide_line_run.specs.Lines.{BeginsLines, lines_framed, by_texts, last_line, facts_of_texts}
+use Rattle.aide_line_run.specs.Lines.{lines_of_texts, first_line}
+use Rattle.aide_line_run.specs.RunEnds.{AreAllSound, CutsLines, RunsLines, SendsWholeOf, answer_by}
 use Rattle.aide_line_run.specs.Listed.{Leaves, ListRead, leaves_between}
 use Rattle.aide_line_run.specs.Sought.{Accounted, accounted_line, accounted_lines, changes_of, sought_by}
 use Rattle.aide_line_run.specs.code.Over.{AreDone}
 use Rattle.aide_line_run.specs.code.Readings.{AreOpened}
-use Rattle.aide_line_run.specs.code.Written.{ArePairsRead, CutsChanges, CutsLast, HasToldAll, IsWrite, begun_beside, told_beside}
+use Rattle.aide_line_run.specs.code.Written.{ArePairsRead, CutsChanges, CutsLast, HasToldAll, IsWrite, lines_begun, told_beside}
 use Rattle.aide_line_run.specs.declared.pair_fault.PairFault.{PairFault}
 use Rattle.aide_line_run.specs.declared.pair_fault.PairFault.TheVariants.{Compared, Trusted}
 use Rattle.aide_line_run.specs.declared.walk.Merges.{Merges}
@@ -68,9 +68,9 @@ unaccounted_are : (changes : List PathChange) → changes_of (unaccounted change
 unaccounted_are [] = refl
 unaccounted_are (c ∷ cs) = ap (λ l. c ∷ l) (unaccounted_are cs)
 
-begins_none : (leaves : Leaves) (wish trusted_wish : Asked) (changes beside : List PathChange) (bytes : Option (List ℕ))
-    → BeginsBeside leaves wish trusted_wish changes beside bytes bytes
-begins_none leaves wish trusted_wish changes beside bytes = record {
+begins_none : (leaves : Leaves) (wish trusted_wish : Asked) (changes trusted_changes : List PathChange) (bytes : Option (List ℕ))
+    → BeginsLines leaves wish trusted_wish changes trusted_changes bytes bytes
+begins_none leaves wish trusted_wish changes trusted_changes bytes = record {
   accounted = unaccounted changes;
   all = unaccounted_are changes;
   part = part_none _ bytes;
@@ -80,7 +80,7 @@ begins_none leaves wish trusted_wish changes beside bytes = record {
 -- nothing has gone out
 module _ (limits : Limits) (list : ListRead) (wish trusted_wish : Asked) (old new trusted_old trusted_new : List ℕ)
     (bytes : Option (List ℕ)) where
-  pub cut_none : (fault : PairFault) → CutsBeside limits list wish trusted_wish old new trusted_old trusted_new bytes bytes fault
+  pub cut_none : (fault : PairFault) → CutsLines limits list wish trusted_wish old new trusted_old trusted_new bytes bytes fault
   cut_none (Compared (Open side)) = begins_none _ wish trusted_wish _ _ bytes
   cut_none (Compared (Database fault)) = begins_none _ wish trusted_wish _ _ bytes
   cut_none (Compared (Changed side)) = begins_none _ wish trusted_wish _ _ bytes
@@ -120,11 +120,11 @@ module _ {R : Type 0} {r : Reels R} {limits : Limits} {a b s t : Seen} {m : Merg
     -- what has gone out of changes that were broken off
     done_begins : (done : List Accounted) (before after : Option (List ℕ)) (fault : PairFault)
         → AreDone {X = PairsFound} r list wish.options m e v done (Err fault)
-        → SendsPart (begun_beside wish trusted_wish done) before after
-        → BeginsBeside (leaves_between list old new) wish trusted_wish (pass_of old new) (pass_of trusted_old trusted_new)
+        → SendsPart (lines_begun wish trusted_wish done) before after
+        → BeginsLines (leaves_between list old new) wish trusted_wish (pass_of old new) (pass_of trusted_old trusted_new)
         before after
     done_begins done before after fault are part =
-        let opening = opening_beside wish trusted_wish in
+        let opening = first_line wish trusted_wish in
         let rest = are.changes old new (p.opened.stands Old old told_old) (p.opened.stands New new told_new) in
         record {
           accounted = done ++ unaccounted rest.0;
@@ -148,22 +148,22 @@ module _ {R : Type 0} {r : Reels R} {limits : Limits} {a b s t : Seen} {m : Merg
       in_order = pass_sorted limits old new sound.of_old sound.of_new
 
       -- what comes before the last line
-      text_begun : (lines_beside list wish trusted_wish old new trusted_old trusted_new).text
-          ≡ (opening_beside wish trusted_wish ++ lines_sought)
-          ++ closing_beside list (facts_of_texts old new trusted_old trusted_new)
+      text_begun : (lines_of_texts list wish trusted_wish old new trusted_old trusted_new).text
+          ≡ (first_line wish trusted_wish ++ lines_sought)
+          ++ last_line list (facts_of_texts old new trusted_old trusted_new)
           (line_counts wish.options (by_texts list old new trusted_old trusted_new) (database_of old) (database_of new))
-      unfolding lines_beside all_lines_beside
-      text_begun = sym (λ i. (opening_beside wish trusted_wish
+      unfolding lines_of_texts lines_framed
+      text_begun = sym (λ i. (first_line wish trusted_wish
           ++ change_lines wish.options (sought_is (leaves_between list old new) limits trusted_old trusted_new
           sound.of_trusted_old sound.of_trusted_new i)
           (sym (pass_is_changes limits old new sound.of_old sound.of_new) i))
-          ++ closing_beside list (facts_of_texts old new trusted_old trusted_new)
+          ++ last_line list (facts_of_texts old new trusted_old trusted_new)
           (line_counts wish.options (by_texts list old new trusted_old trusted_new) (database_of old) (database_of new)))
 
       begins_whole : {before after : Option (List ℕ)}
-          → BeginsBeside (leaves_between list old new) wish trusted_wish (pass_of old new) (pass_of trusted_old trusted_new)
+          → BeginsLines (leaves_between list old new) wish trusted_wish (pass_of old new) (pass_of trusted_old trusted_new)
           before after
-          → SendsPart (lines_beside list wish trusted_wish old new trusted_old trusted_new).text before after
+          → SendsPart (lines_of_texts list wish trusted_wish old new trusted_old trusted_new).text before after
       begins_whole begins = part_longer _ _ text_begun (begins.sought in_order)
 
       counts_of_pass : tally wish.options (sought_by (leaves_between list old new) (pass_of trusted_old trusted_new))
@@ -193,11 +193,11 @@ module _ {R : Type 0} {r : Reels R} {limits : Limits} {a b s t : Seen} {m : Merg
 
         -- what was written is the answer
         pub told_is : told_beside list wish trusted_wish told.done found
-            ≡ (lines_beside list wish trusted_wish old new trusted_old trusted_new).text
+            ≡ (lines_of_texts list wish trusted_wish old new trusted_old trusted_new).text
         told_is =
             let is = texts_read old new (compared_read told.read) told_old told_new in
             let other = texts_read trusted_old trusted_new (trusted_read told.read) told_trusted_old told_trusted_new in
-            (λ i. (opening_beside wish trusted_wish ++ sym all_lines i) ++ closing_beside list (record {
+            (λ i. (first_line wish trusted_wish ++ sym all_lines i) ++ last_line list (record {
               of_old = record { digest = is.digest_old i; skipped = is.skipped_old i };
               of_new = record { digest = is.digest_new i; skipped = is.skipped_new i };
               of_trusted_old = record { digest = other.digest_old i; skipped = other.skipped_old i };
@@ -205,9 +205,9 @@ module _ {R : Type 0} {r : Reels R} {limits : Limits} {a b s t : Seen} {m : Merg
             }) (counted i))
             ∙ sym text_begun
 
-        pub outcome_is : (lines_beside list wish trusted_wish old new trusted_old trusted_new).outcome
+        pub outcome_is : (lines_of_texts list wish trusted_wish old new trusted_old trusted_new).outcome
             ≡ line_outcome found.counts found.compared.skipped_old found.compared.skipped_new
-        unfolding lines_beside report_over
+        unfolding lines_of_texts report_over
         outcome_is =
             let is = texts_read old new (compared_read told.read) told_old told_new in
             sym (λ i. line_outcome (counted i) (is.skipped_old i) (is.skipped_new i))
@@ -224,9 +224,9 @@ module _ {R : Type 0} {r : Reels R} {limits : Limits} {a b s t : Seen} {m : Merg
     -- ---- what has gone out at a fault
 
     cut_changes : (before after : Option (List ℕ)) (fault : PairFault)
-        → BeginsBeside (leaves_between list old new) wish trusted_wish (pass_of old new) (pass_of trusted_old trusted_new)
+        → BeginsLines (leaves_between list old new) wish trusted_wish (pass_of old new) (pass_of trusted_old trusted_new)
         before after
-        → CutsBeside limits list wish trusted_wish old new trusted_old trusted_new before after fault
+        → CutsLines limits list wish trusted_wish old new trusted_old trusted_new before after fault
     cut_changes before after (Compared (Open side)) begins = begins
     cut_changes before after (Compared (Database fault)) begins = begins
     cut_changes before after (Compared (Changed side)) begins = begins
@@ -235,8 +235,8 @@ module _ {R : Type 0} {r : Reels R} {limits : Limits} {a b s t : Seen} {m : Merg
 
     cut_last : (before after : Option (List ℕ)) (fault : PairFault) → IsWrite fault
         → AreAllSound limits old new trusted_old trusted_new
-        → SendsPart (lines_beside list wish trusted_wish old new trusted_old trusted_new).text before after
-        → CutsBeside limits list wish trusted_wish old new trusted_old trusted_new before after fault
+        → SendsPart (lines_of_texts list wish trusted_wish old new trusted_old trusted_new).text before after
+        → CutsLines limits list wish trusted_wish old new trusted_old trusted_new before after fault
     cut_last before after (Compared (Open side)) written sound part = absurd written
     cut_last before after (Compared (Database fault)) written sound part = absurd written
     cut_last before after (Compared (Changed side)) written sound part = absurd written
@@ -245,7 +245,7 @@ module _ {R : Type 0} {r : Reels R} {limits : Limits} {a b s t : Seen} {m : Merg
 
     pub cut_by : {n : Merges R} {f w : DeskView} (before after : Option (List ℕ)) (fault : PairFault)
         → CutsChanges r list wish trusted_wish m e v before after fault ⊎ CutsLast r list wish trusted_wish m n e f v w before after fault
-        → CutsBeside limits list wish trusted_wish old new trusted_old trusted_new before after fault
+        → CutsLines limits list wish trusted_wish old new trusted_old trusted_new before after fault
     cut_by before after fault cut = elim cut [
       | inl early ↦ cut_changes before after fault (done_begins early.done before after fault early.are early.part)
       | inr last ↦
@@ -275,7 +275,7 @@ pub ends_whole : {R : Type 0} {r : Reels R} {limits : Limits} {a b s t : Seen} {
     → (old new trusted_old trusted_new : Option (List ℕ))
     → TellsSide (a.bytes_of Old) (a.is_missing Old) old × TellsSide (a.bytes_of New) (a.is_missing New) new
     → TellsSide (s.bytes_of Old) (s.is_missing Old) trusted_old × TellsSide (s.bytes_of New) (s.is_missing New) trusted_new
-    → (r : Result Report PairFault) → RunsBeside limits list wish trusted_wish old new trusted_old trusted_new r
+    → (r : Result Report PairFault) → RunsLines limits list wish trusted_wish old new trusted_old trusted_new r
     → SendsWholeOf r (line_outcome found.counts found.compared.skipped_old found.compared.skipped_new) before after
 ends_whole p q list wish trusted_wish before after told None new trusted_old trusted_new tells trusted_tells r runs =
     absurd (true_false (sym tells.0 ∙ p.there Old))
@@ -291,8 +291,8 @@ ends_whole {limits = limits} {a = a} {s = s} p q list wish trusted_wish before a
     let trusted_read = trusted_read p q told.read in
     let sound = all_sound p q list wish trusted_wish old new trusted_old trusted_new tells.0 tells.1 trusted_tells.0 trusted_tells.1
     told.read in
-    whole_as r (lines_beside list wish trusted_wish old new trusted_old trusted_new) _ before after
-    (okay_answer runs.compared runs.trusted (lines_beside list wish trusted_wish old new trusted_old trusted_new) r
+    whole_as r (lines_of_texts list wish trusted_wish old new trusted_old trusted_new) _ before after
+    (okay_answer runs.compared runs.trusted (lines_of_texts list wish trusted_wish old new trusted_old trusted_new) r
     (okay_over limits wish a.bytes_of a.is_missing (Some old) (Some new) tells.0 tells.1 read.there read.sound runs.compared
     runs.compared_runs)
     (okay_over limits trusted_wish s.bytes_of s.is_missing (Some trusted_old) (Some trusted_new) trusted_tells.0 trusted_tells.1

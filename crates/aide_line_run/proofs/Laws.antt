@@ -1,4 +1,4 @@
--- What is sought beside a trusted pair of sound texts is what its maps have.
+-- What is sought with a trusted pair of sound texts is what its maps have.
 use Rattle.std.specs.Prelude.{◌≡◌, ℕ, true, cond, T, List, [], ◌∷◌, Option, Some, None}
 use Rattle.std.proofs.Common.{refl, sym, ap, subst, ◌∙◌}
 use Rattle.std.specs.declared.cmp.Ordering.{Ordering}
@@ -20,7 +20,7 @@ use Rattle.aide_merge.specs.Merged.{merged}
 use Rattle.aide_merge.proofs.MergeLemmas.{and_second, below_sorted, changes-merged, find-merged}
 use Rattle.aide_merge.proofs.MergeLemmas.{find_below, paired, sorted-merged}
 use Rattle.aide_merge.proofs.TextLemmas.{pass_is_changes}
-use Rattle.aide_line_run.specs.BesideLines.{by_trusted}
+use Rattle.aide_line_run.specs.Lines.{by_trusted}
 use Rattle.aide_line_run.specs.Listed.{Leaves, account_by}
 use Rattle.aide_line_run.specs.Sought.{found_at, seek, sought_by}
 use Rattle.aide_line_run.proofs.SoughtLemmas.{T_true}
@@ -71,7 +71,7 @@ pass_sorted limits old new sound_old sound_new =
     T_true _ (subst (λ l. T (is_sorted path_cmp l)) (pass_is_changes limits old new sound_old sound_new)
     (entries_sorted (compared (database_of old) (database_of new))))
 
--- What a pass beside a trusted pair of sound texts takes for the account of a change is what its maps say.
+-- What a pass with a trusted pair of sound texts takes for the account of a change is what its maps say.
 pub sought_is : (leaves : Leaves) (limits : Limits) (trusted_old trusted_new : List ℕ) → IsSound limits trusted_old → IsSound limits
     trusted_new
     → sought_by leaves (pass_of trusted_old trusted_new) ≡ by_trusted leaves (database_of trusted_old) (database_of trusted_new)

@@ -6,7 +6,7 @@ pub mod Laws
 pub mod PairLemmas
 pub mod ReadLemmas
 pub mod EndLemmas
-pub mod BesideLaws
+pub mod WrittenLaws
 pub mod RunLemmas
 pub mod LineLaws
 pub mod LineLemmas

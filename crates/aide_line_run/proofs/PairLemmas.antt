@@ -1,4 +1,4 @@
--- The answers beside a trusted pair, by those over each pair.
+-- The answers with a trusted pair, by those over each pair.
 use Rattle.std.specs.Prelude.{◌≡◌, ℕ, Bool, Option, Some, None, Result, Ok, Err, List, ⊤, false}
 use Rattle.std.proofs.Common.{ap, inl, inr, rules, subst, sym}
 use Rattle.aide_db.specs.Database.{IsSound}
@@ -14,7 +14,7 @@ use Rattle.aide_merge.specs.RightAnswer.{Report}
 use Rattle.aide_report.specs.Runs.{Runs, report_over}
 use Rattle.aide_merge.specs.declared.run_fault.RunFault.{RunFault}
 use Rattle.aide_merge.proofs.AnswerLemmas.{over_texts}
-use Rattle.aide_line_run.specs.BesideRuns.{StopsForPair, answer_by}
+use Rattle.aide_line_run.specs.RunEnds.{StopsForPair, answer_by}
 use Rattle.aide_line_run.specs.Pairs.{OfEach}
 use Rattle.aide_line_run.specs.declared.pair_fault.PairFault.{PairFault}
 use Rattle.aide_line_run.specs.declared.pair_fault.PairFault.TheVariants.{Compared, Trusted}

@@ -1,4 +1,4 @@
--- What a run beside a trusted pair reads of each pair, and what a fault of a pair means.
+-- What a run with a trusted pair reads of each pair, and what a fault of a pair means.
 use Rattle.std.specs.Prelude.{ℕ, ◌≡◌, ◌<◌, ◌≤◌, true, false, ⊤, Option, Some, List, Result, Ok}
 use Rattle.std.proofs.Common.{refl, sym, subst}
 use Rattle.aide_db.specs.Database.{IsSound}
@@ -29,9 +29,9 @@ use Rattle.aide_line_run.proofs.StopLemmas.{comes_of}
 use Rattle.aide_line_run.proofs.OneReadingLemmas.{desk_read, fault_as, fault_of_write, stops_at}
 use Rattle.aide_merge.proofs.KeepLemmas.{desk_then, sources_then}
 use Rattle.aide_merge.proofs.KeepLemmas.{clears_then}
-use Rattle.aide_line_run.specs.BesideRuns.{IsFaultOfPair, LeavesPair, RunsBeside, StopsForPair, over_sides}
+use Rattle.aide_line_run.specs.RunEnds.{IsFaultOfPair, LeavesPair, RunsLines, StopsForPair, over_sides}
 use Rattle.aide_line_run.specs.Listed.{ListRead}
-use Rattle.aide_line_run.specs.BesideLines.{lines_beside}
+use Rattle.aide_line_run.specs.Lines.{lines_of_texts}
 use Rattle.aide_line_run.specs.PairSeen.{Told, pair_seen}
 use Rattle.aide_line_run.specs.Pairs.{OfEach}
 use Rattle.aide_line_run.specs.code.Readings.{AreOpened, AreSoundThere, IsFaultOfFour, KeepsPair}
@@ -158,15 +158,15 @@ module _ (limits : Limits) (a b s t : Seen) (room trusted_room : ℕ) (sink : Ty
     pub stops_over : (fault : PairFault) → IsFaultOfFour limits a b room sink s t trusted_room fault
         → (old new trusted_old trusted_new : Option (List ℕ)) → Told (pair_seen wish a b d f) old new
         → Told (pair_seen trusted_wish s t u w) trusted_old trusted_new
-        → (r : Result Report PairFault) → RunsBeside limits list wish trusted_wish old new trusted_old trusted_new r
+        → (r : Result Report PairFault) → RunsLines limits list wish trusted_wish old new trusted_old trusted_new r
         → StopsForPair r (OfEach (IsHindered old new (Rose a.failures b.failures) sink)
         (IsHindered trusted_old trusted_new (Rose s.failures t.failures) ⊥)) fault
     stops_over (Compared fault) is old new trusted_old trusted_new told trusted_told r runs =
-        stops_compared runs.compared runs.trusted (over_sides (lines_beside list wish trusted_wish) old new trusted_old trusted_new) r
+        stops_compared runs.compared runs.trusted (over_sides (lines_of_texts list wish trusted_wish) old new trusted_old trusted_new) r
         (IsHindered old new (Rose a.failures b.failures) sink) (IsHindered trusted_old trusted_new (Rose s.failures t.failures) ⊥)
         fault runs.answer (is.over wish old new told.0 told.1 runs.compared runs.compared_runs)
     stops_over (Trusted fault) is old new trusted_old trusted_new told trusted_told r runs =
-        stops_trusted runs.compared runs.trusted (over_sides (lines_beside list wish trusted_wish) old new trusted_old trusted_new) r
+        stops_trusted runs.compared runs.trusted (over_sides (lines_of_texts list wish trusted_wish) old new trusted_old trusted_new) r
         (IsHindered old new (Rose a.failures b.failures) sink) (IsHindered trusted_old trusted_new (Rose s.failures t.failures) ⊥)
         fault runs.answer
         (okay_over limits wish a.bytes_of a.is_missing old new told.0 told.1 is.1.there is.1.sound runs.compared runs.compared_runs)

@@ -1,4 +1,4 @@
--- How a run beside a trusted pair comes to its promise.
+-- How a run with a trusted pair comes to its promise.
 use Rattle.std.specs.Prelude.{ℕ, ◌≡◌, ◌⊎◌, true, false, Option, List, Ok, Err}
 use Rattle.std.specs.Io.KnownBytes.{Appends}
 use Rattle.std.proofs.Common.{ap, refl, sym, ◌∙◌}

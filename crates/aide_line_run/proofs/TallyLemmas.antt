@@ -1,4 +1,4 @@
--- The numbers of the last line beside a trusted pair, one change after another.
+-- The numbers of the last line with a trusted pair, one change after another.
 use Rattle.std.proofs.Common.{◌≡◌, ◌+◌, ◌-◌, ◌<◌, ◌^◌, ◌∙◌, ◌∷◌, ◌++◌, Bool, List, [], ap, arith, false, refl, rules, sym, true, ℕ}
 use Rattle.std.specs.Prelude.{count_by, cond, ◌&&◌, Option, map}
 use Rattle.std.specs.List.{flat_map}

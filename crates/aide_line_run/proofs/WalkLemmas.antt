@@ -75,7 +75,7 @@ module _ {R : Type 0} (r : Reels R) (list : ListRead) (options : Options) (m : M
         let next : (old new : List ℕ) → StandsAt r.to_come m.compared d Old old → StandsAt r.to_come m.compared d New new
         → remaining n.compared e old new ≡ changes ++ remaining k.compared f old new =
         λ old new s t. gives old new (keeps.compared.stands Old old s) (keeps.compared.stands New new t) in
-        let beside : (old new : List ℕ) → StandsAt r.to_come m.trusted u Old old → StandsAt r.to_come m.trusted u New new
+        let sought : (old new : List ℕ) → StandsAt r.to_come m.trusted u Old old → StandsAt r.to_come m.trusted u New new
         → remaining k.trusted w old new ≡ seek c.0 (remaining n.trusted v old new) =
         λ old new s t. sought old new (keeps.trusted.stands Old old s) (keeps.trusted.stands New new t) in
         let means : (old new trusted_old trusted_new : List ℕ) → StandsAt r.to_come m.compared d Old old
@@ -99,7 +99,7 @@ module _ {R : Type 0} (r : Reels R) (list : ListRead) (options : Options) (m : M
               (one_sought (accounted_line options) (leaves_between list old new) c (remaining n.compared e old new) changes
               (remaining k.compared f old new)
               (remaining n.trusted v trusted_old trusted_new) (remaining k.trusted w trusted_old trusted_new) account
-              (next old new s t) one (beside trusted_old trusted_new x y) (means old new trusted_old trusted_new s t)
+              (next old new s t) one (sought trusted_old trusted_new x y) (means old new trusted_old trusted_new s t)
               (p.sorted old new s t in_order))
               ∙ sym (append_assoc (accounted_lines options p.done) (accounted_line options (c, account)) rest)
               ∙ ap (λ l. l ++ rest) (lines_next options p.done (c, account));
@@ -108,7 +108,7 @@ module _ {R : Type 0} (r : Reels R) (list : ListRead) (options : Options) (m : M
               (sought_more (leaves_between list old new) c (remaining n.compared e old new) changes
               (remaining k.compared f old new)
               (remaining n.trusted v trusted_old trusted_new) (remaining k.trusted w trusted_old trusted_new) account
-              (next old new s t) one (beside trusted_old trusted_new x y) (means old new trusted_old trusted_new s t)
+              (next old new s t) one (sought trusted_old trusted_new x y) (means old new trusted_old trusted_new s t)
               (p.sorted old new s t in_order))
               grows (p.tallies old new trusted_old trusted_new s t x y in_order);
           sorted = λ old new s t in_order. sorted_rest c (remaining n.compared e old new) changes (remaining k.compared f old new)

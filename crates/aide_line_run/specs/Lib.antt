@@ -1,5 +1,5 @@
-pub mod BesideLines
-pub mod BesideRuns
+pub mod Lines
+pub mod RunEnds
 pub mod LinesRun
 pub mod Pairs
 pub mod PairSeen

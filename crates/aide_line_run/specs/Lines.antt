@@ -36,22 +36,22 @@ by_trusted leaves trusted_old trusted_new change =
     (leaves change)
 
 -- the first line: the configured paths of all four databases
-abbrev pub opening_beside : (asked trusted : Asked) → List ℕ
-opening_beside asked trusted = opening_line asked.old_path asked.new_path
+abbrev pub first_line : (asked trusted : Asked) → List ℕ
+first_line asked trusted = opening_line asked.old_path asked.new_path
     trusted.old_path trusted.new_path
 
 -- the last line
-abbrev pub closing_beside : ListRead → PairFacts → LineCounts → List ℕ
-closing_beside list facts counts = closing_line facts.of_old facts.of_new
+abbrev pub last_line : ListRead → PairFacts → LineCounts → List ℕ
+last_line list facts counts = closing_line facts.of_old facts.of_new
     facts.of_trusted_old facts.of_trusted_new list.digest counts (status_by counts)
 
 -- all lines, with these facts, counts and changes: the first line, a line for each added, removed or changed entry,
 -- which says what accounts for the change, and the last line
-unfoldable pub all_lines_beside : ListRead → (asked trusted : Asked) → PairFacts → Accounts
+unfoldable pub lines_framed : ListRead → (asked trusted : Asked) → PairFacts → Accounts
     → LineCounts → List PathChange → List ℕ
-all_lines_beside list asked trusted facts account counts changes =
-    (opening_beside asked trusted ++ change_lines asked.options account changes)
-    ++ closing_beside list facts counts
+lines_framed list asked trusted facts account counts changes =
+    (first_line asked trusted ++ change_lines asked.options account changes)
+    ++ last_line list facts counts
 
 -- what the last line says about four texts
 abbrev pub facts_of_texts : (old new trusted_old trusted_new : List ℕ) → PairFacts
@@ -66,7 +66,7 @@ facts_of_texts old new trusted_old trusted_new = record {
 abbrev pub lines_of_pairs : ListRead → (asked trusted : Asked) → PairFacts → Accounts
     → (old new : Database) → List ℕ
 lines_of_pairs list asked trusted facts account old new =
-    all_lines_beside list asked trusted facts account (line_counts asked.options account old new)
+    lines_framed list asked trusted facts account (line_counts asked.options account old new)
     (changes old new)
 
 -- what accounts for the changes of two texts, by the maps of the trusted texts and by a list
@@ -77,10 +77,10 @@ by_texts list old new trusted_old trusted_new =
 
 -- The lines over four sound texts, and the outcome that goes with them, in which the trusted texts and the list have no
 -- part.
-unfoldable pub lines_beside : ListRead → (asked trusted : Asked)
+unfoldable pub lines_of_texts : ListRead → (asked trusted : Asked)
     → (old new trusted_old trusted_new : List ℕ)
     → Report
-lines_beside list asked trusted old new trusted_old trusted_new = record {
+lines_of_texts list asked trusted old new trusted_old trusted_new = record {
   text = lines_of_pairs list asked trusted (facts_of_texts old new trusted_old trusted_new)
       (by_texts list old new trusted_old trusted_new) (database_of old) (database_of new);
   outcome = (report_over asked old new).outcome;
@@ -88,20 +88,22 @@ lines_beside list asked trusted old new trusted_old trusted_new = record {
 
 -- A beginning of the first line and of the lines of these changes has been written, each with what accounts for it. If
 -- the changes are in path order, that is what the changes of the trusted pair have at its path, or what is left out.
-pub record BeginsBeside (leaves : Leaves) (asked trusted : Asked) (changes beside : List PathChange)
+pub record BeginsLines (leaves : Leaves) (asked trusted : Asked)
+    (changes trusted_changes : List PathChange)
     (before after : Option (List ℕ)) : Type 0 where
   pub accounted : List Accounted
   pub all : changes_of accounted ≡ changes
-  pub part : SendsPart (opening_beside asked trusted ++ accounted_lines asked.options accounted)
+  pub part : SendsPart (first_line asked trusted ++ accounted_lines asked.options accounted)
       before after
   pub sought : is_sorted path_cmp changes ≡ true → SendsPart
-      (opening_beside asked trusted ++ change_lines asked.options (sought_by leaves beside) changes)
+      (first_line asked trusted
+      ++ change_lines asked.options (sought_by leaves trusted_changes) changes)
       before after
 
 -- The first line has been written with the paths, the last line with some digests, the skipped columns and the counts
 -- of this outcome, and bytes between them only if an entry was added, removed or changed. What accounts for the lines
 -- are as many as they are. The skipped columns of the trusted pair are no part of the outcome.
-pub record AreLinesBeside (list : ListRead) (asked trusted : Asked) (outcome : Outcome)
+pub record AreAllLines (list : ListRead) (asked trusted : Asked) (outcome : Outcome)
     (before after : Option (List ℕ)) : Type 0 where
   pub facts : PairFacts
   pub skipped_old : facts.of_old.skipped ≡ outcome.skipped_old
@@ -110,6 +112,6 @@ pub record AreLinesBeside (list : ListRead) (asked trusted : Asked) (outcome : O
   pub told : line_outcome counts outcome.skipped_old outcome.skipped_new ≡ outcome
   pub accounted : account_count counts ≡ entry_count counts
   pub between : List ℕ
-  pub bytes : Appends before after ((opening_beside asked trusted ++ between)
-      ++ closing_beside list facts counts)
+  pub bytes : Appends before after ((first_line asked trusted ++ between)
+      ++ last_line list facts counts)
   pub alone : entry_count counts ≡ 0 → between ≡ []

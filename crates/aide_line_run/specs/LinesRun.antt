@@ -12,9 +12,9 @@ use Rattle.aide_merge.specs.RightAnswer.{Report}
 use Rattle.aide_merge.specs.Seen.{SinkSeen}
 use Rattle.aide_merge.specs.declared.outcome.Outcome.{Outcome}
 use Rattle.aide_text.specs.Failures.{CountsFlush, Rose}
-use Rattle.aide_line_run.specs.BesideLines.{AreLinesBeside}
-use Rattle.aide_line_run.specs.BesideRuns.{CutsBeside, EndsBeside, IsFaultOfPair, LeavesPair}
-use Rattle.aide_line_run.specs.BesideRuns.{RunsBeside}
+use Rattle.aide_line_run.specs.Lines.{AreAllLines}
+use Rattle.aide_line_run.specs.RunEnds.{CutsLines, EndsLines, IsFaultOfPair, LeavesPair}
+use Rattle.aide_line_run.specs.RunEnds.{RunsLines}
 use Rattle.aide_line_run.specs.Listed.{ListRead}
 use Rattle.aide_line_run.specs.PairSeen.{Gives, PairSeen, Told}
 use Rattle.aide_line_run.specs.Pairs.{CountsPairWrites, OfCompared, OfEach}
@@ -39,15 +39,15 @@ pub record IsLinesRun (limits : Limits) (list : ListRead) (p q : PairSeen)
   pub over : (old new trusted_old trusted_new : Option (List ℕ)) → Told p old new
       → Told q trusted_old trusted_new
       → (r : Result Report PairFault)
-      → RunsBeside limits list p.asked q.asked old new trusted_old trusted_new r
-      → EndsBeside r (OfEach
+      → RunsLines limits list p.asked q.asked old new trusted_old trusted_new r
+      → EndsLines r (OfEach
       (IsHindered old new (Rose p.before.failures p.after.failures) (Rose o.failures s.failures))
       (IsHindered trusted_old trusted_new (Rose q.before.failures q.after.failures) ⊥))
       result o.delivered s.delivered
   -- what has been written at a fault
   pub cut : (old new trusted_old trusted_new : List ℕ) → Gives p old new
       → Gives q trusted_old trusted_new
-      → IfErr result (CutsBeside limits list p.asked q.asked old new trusted_old trusted_new
+      → IfErr result (CutsLines limits list p.asked q.asked old new trusted_old trusted_new
       o.delivered s.delivered)
   -- Before all four sides are open nothing is written.
   pub unopened : IfErr result (OfEach (KeepsUnopened o.delivered s.delivered)
@@ -60,7 +60,7 @@ pub record IsLinesRun (limits : Limits) (list : ListRead) (p q : PairSeen)
   pub behind : IfErr result (OfEach (λ fault. ⊤) (λ fault. AreSoundIn limits p))
   -- For any sources, also those that show no bytes: what has been written is of the very outcome that is returned.
   pub consistent : IfOk result (λ outcome.
-      AreLinesBeside list p.asked q.asked outcome o.delivered s.delivered)
+      AreAllLines list p.asked q.asked outcome o.delivered s.delivered)
   -- The lines are flushed once, after their last byte, and after a fault not at all.
   pub flushed : OnOk result (s.is_flushed ≡ true)
   pub flushes : CountsFlush o.flushes s.flushes result

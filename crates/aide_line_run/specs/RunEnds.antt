@@ -26,7 +26,7 @@ use Rattle.aide_merge.specs.declared.run_fault.RunFault.{RunFault}
 use Rattle.aide_merge.specs.declared.run_fault.RunFault.TheVariants.{Write}
 use Rattle.aide_text.specs.Failures.{Rose}
 use Rattle.aide_text.specs.Sent.{SendsPart}
-use Rattle.aide_line_run.specs.BesideLines.{BeginsBeside, lines_beside}
+use Rattle.aide_line_run.specs.Lines.{BeginsLines, lines_of_texts}
 use Rattle.aide_line_run.specs.Listed.{ListRead, leaves_between}
 use Rattle.aide_line_run.specs.PairSeen.{Gives, PairSeen}
 use Rattle.aide_line_run.specs.declared.pair_fault.PairFault.{PairFault}
@@ -53,7 +53,7 @@ answer_by (Ok report) (Ok other) None r = ⊥
 answer_by (Ok report) (Ok other) (Some over) r = r ≡ Ok over
 
 -- The right answer, by what is at all four sides.
-pub record RunsBeside (limits : Limits) (list : ListRead) (asked trusted_asked : Asked)
+pub record RunsLines (limits : Limits) (list : ListRead) (asked trusted_asked : Asked)
     (old new trusted_old trusted_new : Option (List ℕ))
     (r : Result Report PairFault) : Type 0 where
   pub compared : Result Report RunFault
@@ -61,7 +61,7 @@ pub record RunsBeside (limits : Limits) (list : ListRead) (asked trusted_asked :
   pub compared_runs : RunsOver limits asked old new compared
   pub trusted_runs : RunsOver limits trusted_asked trusted_old trusted_new trusted
   pub answer : answer_by compared trusted
-      (over_sides (lines_beside list asked trusted_asked) old new trusted_old trusted_new) r
+      (over_sides (lines_of_texts list asked trusted_asked) old new trusted_old trusted_new) r
 
 -- ---- how a run ends
 
@@ -78,10 +78,10 @@ SendsWholeOf (Ok report) outcome before after = (report.outcome ≡ outcome)
 SendsWholeOf (Err right) outcome before after = ⊥
 
 -- a run ends with this answer and all that goes with it, unless a fault keeps the run from it
-abbrev pub EndsBeside : Result Report PairFault → (PairFault → Type 0) → Result Outcome PairFault
+abbrev pub EndsLines : Result Report PairFault → (PairFault → Type 0) → Result Outcome PairFault
     → Option (List ℕ) → Option (List ℕ) → Type 0
-EndsBeside r hindered (Ok outcome) before after = SendsWholeOf r outcome before after
-EndsBeside r hindered (Err fault) before after = StopsForPair r hindered fault
+EndsLines r hindered (Ok outcome) before after = SendsWholeOf r outcome before after
+EndsLines r hindered (Err fault) before after = StopsForPair r hindered fault
 
 -- ---- what has been written at a fault
 
@@ -97,19 +97,20 @@ abbrev pub changes_between : (old new : List ℕ) → List PathChange
 changes_between old new = merged path_cmp (entries_of old) (entries_of new)
 
 -- Never a byte of the last line, unless all four texts are sound and a write has failed.
-abbrev pub CutsBeside : Limits → ListRead → (asked trusted : Asked)
+abbrev pub CutsLines : Limits → ListRead → (asked trusted : Asked)
     → (old new trusted_old trusted_new : List ℕ)
     → (before after : Option (List ℕ)) → PairFault
     → Type 0
-CutsBeside limits list asked trusted old new trusted_old trusted_new before after
+CutsLines limits list asked trusted old new trusted_old trusted_new before after
     (Compared (Write written)) =
     (AreAllSound limits old new trusted_old trusted_new
-    → SendsPart (lines_beside list asked trusted old new trusted_old trusted_new).text before after)
+    → SendsPart (lines_of_texts list asked trusted old new trusted_old trusted_new).text
+    before after)
     × ((AreAllSound limits old new trusted_old trusted_new → ⊥)
-    → BeginsBeside (leaves_between list old new) asked trusted
+    → BeginsLines (leaves_between list old new) asked trusted
     (changes_between old new) (changes_between trusted_old trusted_new) before after)
-CutsBeside limits list asked trusted old new trusted_old trusted_new before after _ =
-    BeginsBeside (leaves_between list old new) asked trusted
+CutsLines limits list asked trusted old new trusted_old trusted_new before after _ =
+    BeginsLines (leaves_between list old new) asked trusted
     (changes_between old new) (changes_between trusted_old trusted_new) before after
 
 -- ---- what a run leaves of each pair

@@ -1,7 +1,7 @@
 //! Two databases, compared with the help of a trusted pair: what accounts for each change.
 #![tactic(auto)]
 
-mod beside;
+mod trusted;
 mod change;
 mod change_lines;
 mod in_order;

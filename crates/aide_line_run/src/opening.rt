@@ -44,10 +44,10 @@ pub(crate) fn open_four<S: Sources, A: Allocator + Copy>(
     let mut compared = Merge::start(old_reel, new_reel, limits, desk);
     match open_in_order(trusted, limits, trusted_desk) {
         Ok((trusted_old, trusted_new)) => {
-            let beside = Merge::start(trusted_old, trusted_new, limits, trusted_desk);
+            let merge = Merge::start(trusted_old, trusted_new, limits, trusted_desk);
             Ok(Merges {
                 compared,
-                trusted: beside,
+                trusted: merge,
             })
         }
         Err(fault) => {

@@ -11,7 +11,7 @@ use crate::line_counts::outcome_of;
 use crate::opening::open_four;
 use crate::pair_fault::PairFault;
 use crate::walk::Merges;
-use crate::write::{Tasks, write_beside};
+use crate::write::{Tasks, write_lines};
 use aide_db::{Desk, Limits, Sources};
 use aide_merge::{Outcome, clear, close_both};
 use aide_text::Sink;
@@ -66,13 +66,13 @@ pub fn run_lines<S: Sources, W: Sink, A: Allocator + Copy>(
         Ok(merges) => merges,
         Err(fault) => return Err(fault),
     };
-    let written = write_beside(&mut merges, tasks, desk, trusted.desk, out);
+    let written = write_lines(&mut merges, tasks, desk, trusted.desk, out);
     let Merges {
         compared,
-        trusted: beside,
+        trusted: trusted_merge,
     } = merges;
     close_both(sources, compared);
-    close_both(trusted.sources, beside);
+    close_both(trusted.sources, trusted_merge);
     match written {
         Ok(found) => Ok(outcome_of(&found.counts, &found.compared)),
         Err(fault) => Err(fault),

@@ -10,7 +10,7 @@ ghost use Rattle.aide_line_run.specs.code.Settled.{IsPairStopped};
 ghost use Rattle.aide_line_run.specs.code.Walked.{CanWalk, HasEnded, HasWalked, IsAtEnd};
 ghost use Rattle.aide_line_run.specs.code.Walked.{KeepsMerges};
 
-use crate::beside::{account_of, seek};
+use crate::trusted::{account_of, seek};
 use crate::change_lines::put_counted;
 use crate::line_counts::no_counts;
 use crate::list::LeftOutList;

@@ -7,7 +7,7 @@ ghost use Rattle.aide_line_run.specs.code.OneReading.{new_read, old_read};
 ghost use Rattle.aide_text.specs.Failures.{Rose};
 ghost use Rattle.aide_text.specs.PenSheet.{on_sheet};
 ghost use Rattle.aide_text.specs.Sheet.{Wrote};
-ghost use Rattle.aide_line_run.specs.BesideLines.{closing_beside, opening_beside};
+ghost use Rattle.aide_line_run.specs.Lines.{last_line, first_line};
 ghost use Rattle.aide_line_run.specs.ListView.{list_read};
 ghost use Rattle.aide_line_run.specs.code.Settled.{FitsMerges, IsSettledStop};
 ghost use Rattle.aide_line_run.specs.code.Walked.{CanWalk, HasWalked};
@@ -49,7 +49,7 @@ pub(crate) struct PairsFound {
 
 /// Writes the first line.
 fn put_first<W: Sink>(out: &mut W, pen: &mut Pen, tasks: &Tasks<'_>)
-    ensures { Wrote (opening_beside (asked tasks.now.compared.now) (asked tasks.now.trusted.now))
+    ensures { Wrote (first_line (asked tasks.now.compared.now) (asked tasks.now.trusted.now))
         (on_sheet W.Sink out.old pen.old) (on_sheet W.Sink out.new pen.new) }
 {
     put_opening_line(
@@ -81,7 +81,7 @@ fn pair_of(readings: &Readings) -> ReadPair<'_>
 
 /// Writes the last line.
 fn put_last<W: Sink>(out: &mut W, pen: &mut Pen, found: &PairsFound, list: LeftOutList<'_>)
-    ensures { Wrote (closing_beside (list_read list.entry) (facts_found found.now)
+    ensures { Wrote (last_line (list_read list.entry) (facts_found found.now)
         found.now.counts)
         (on_sheet W.Sink out.old pen.old) (on_sheet W.Sink out.new pen.new) }
 {
@@ -109,7 +109,7 @@ fn put_changes<R: Reel, W: Sink, A: Allocator + Copy>(
     ensures read { IfOk result (ArePairsRead R.Reel merges.old merges.new desk.old desk.new
         trusted_desk.old trusted_desk.new) }
     ensures walked { HasWalked R.Reel (list_read tasks.now.list) tasks.now.compared.now.options
-        (opening_beside (asked tasks.now.compared.now) (asked tasks.now.trusted.now))
+        (first_line (asked tasks.now.compared.now) (asked tasks.now.trusted.now))
         (λ found. found.counts) merges.old desk.old trusted_desk.old
         (on_sheet W.Sink out.old pen.old) (on_sheet W.Sink out.new pen.new) result }
     ensures writes_on { OnOk result (pen.new.failed ≡ false) }
@@ -147,7 +147,7 @@ fn pair_fault(stop: PairStop, sent: u64) -> PairFault
 }
 
 /// Writes all lines, and flushes them once.
-pub(crate) fn write_beside<R: Reel, W: Sink, A: Allocator + Copy>(
+pub(crate) fn write_lines<R: Reel, W: Sink, A: Allocator + Copy>(
     merges: &mut Merges<R>,
     tasks: &Tasks<'_>,
     desk: &mut Desk<A>,

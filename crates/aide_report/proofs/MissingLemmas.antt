@@ -40,9 +40,9 @@ Runs-exists limits task old new le = elim (sound_or_fault limits old le) [
 
 -- ---- one answer, and only one
 
-answer_beside_none : (limits : Limits) (wish : Asked) (old : List ℕ) → 14 ≤ limits.line
+answer_of_none : (limits : Limits) (wish : Asked) (old : List ℕ) → 14 ≤ limits.line
     → HasAnswerOver limits wish (Some old) None
-answer_beside_none limits wish old le = elim (sound_or_fault limits old le) [
+answer_of_none limits wish old le = elim (sound_or_fault limits old le) [
   | inr bad ↦
       let fault : DbFault = record { side = Old; line = bad.0; kind = bad.1 } in
       (Err (Database fault), inr (fault, (refl, bad.2), refl))
@@ -52,7 +52,7 @@ answer_beside_none limits wish old le = elim (sound_or_fault limits old le) [
 pub RunsOver-exists : (limits : Limits) (wish : Asked) (old new : Option (List ℕ)) → 14 ≤ limits.line
     → HasAnswerOver limits wish old new
 RunsOver-exists limits wish None new le = (Err (Open Old), refl)
-RunsOver-exists limits wish (Some old) None le = answer_beside_none limits wish old le
+RunsOver-exists limits wish (Some old) None le = answer_of_none limits wish old le
 RunsOver-exists limits wish (Some old) (Some new) le =
     let run = Runs-exists limits wish old new le in (run_answer run.0, (run.0, run.1, refl))
 

@@ -54,10 +54,10 @@ use Rattle.aide_session.specs.TrustedLines.{pair_fault_line, pair_fault_status, 
 use Rattle.aide_session.proofs.AnswerSteps.{same_file}
 use Rattle.aide_session.proofs.Endings.{by_reliable, rose_later, same_some}
 use Rattle.aide_session.proofs.PutLemmas.{put_as, put_passed}
-use Rattle.aide_line_run.specs.BesideLines.{BeginsBeside, lines_beside}
-use Rattle.aide_line_run.specs.BesideRuns.{AreAllSound, CutsBeside, RunsBeside, SendsWholeOf, StopsForPair, answer_by, changes_between}
+use Rattle.aide_line_run.specs.Lines.{BeginsLines, lines_of_texts}
+use Rattle.aide_line_run.specs.RunEnds.{AreAllSound, CutsLines, RunsLines, SendsWholeOf, StopsForPair, answer_by, changes_between}
 use Rattle.aide_line_run.specs.Listed.{ListRead, leaves_between}
-use Rattle.aide_line_run.proofs.BesideLaws.{begins_what_is_written, begins_with_nothing}
+use Rattle.aide_line_run.proofs.WrittenLaws.{begins_what_is_written, begins_with_nothing}
 use Rattle.aide_line_run.specs.Pairs.{OfEach}
 use Rattle.aide_line_run.specs.declared.pair_fault.PairFault.{PairFault}
 use Rattle.aide_line_run.specs.declared.pair_fault.PairFault.TheVariants.{Compared, Trusted}
@@ -225,15 +225,15 @@ module _ (list : ListRead) (wish trusted_wish : Asked) (old new trusted_old trus
   AllSound = AreAllSound limits old new trusted_old trusted_new
 
   abbrev Cut : PairFault → Type 0
-  Cut fault = CutsBeside limits list wish trusted_wish old new trusted_old trusted_new before after fault
+  Cut fault = CutsLines limits list wish trusted_wish old new trusted_old trusted_new before after fault
 
   sound_cut : (fault : PairFault) → AllSound → Cut fault
-      → SendsPart (lines_beside list wish trusted_wish old new trusted_old trusted_new).text before after
+      → SendsPart (lines_of_texts list wish trusted_wish old new trusted_old trusted_new).text before after
   sound_cut (Compared (Write written)) sound cut = cut.0 sound
   sound_cut fault sound cut = begins_what_is_written limits list wish trusted_wish old new trusted_old trusted_new sound before after cut
 
   abbrev Begun : Type 0
-  Begun = BeginsBeside (leaves_between list old new) wish trusted_wish (changes_between old new)
+  Begun = BeginsLines (leaves_between list old new) wish trusted_wish (changes_between old new)
       (changes_between trusted_old trusted_new) before after
 
   unsound_cut : (fault : PairFault) → (AllSound → ⊥) → Cut fault → Begun
@@ -242,7 +242,7 @@ module _ (list : ListRead) (wish trusted_wish : Asked) (old new trusted_old trus
 
   front_by : (compared trusted : Result Report RunFault) (r : Result Report PairFault) (fault : PairFault)
       → RunsOver limits wish (Some old) (Some new) compared → RunsOver limits trusted_wish (Some trusted_old) (Some trusted_new) trusted
-      → answer_by compared trusted (Some (lines_beside list wish trusted_wish old new trusted_old trusted_new)) r
+      → answer_by compared trusted (Some (lines_of_texts list wish trusted_wish old new trusted_old trusted_new)) r
       → Cut fault
       → SendsFront (lines_at_fault list wish trusted_wish (Some old) (Some new) (Some trusted_old) (Some trusted_new)) r before after
   front_by (Err first) trusted r fault runs trusted_runs is cut =
@@ -304,7 +304,7 @@ module _ (job : LineJobText) (list : ListRead) (status before count : ℕ) (v : 
       → ComparesPairs list named (trusted_of job) s.options (Err fault) (Rose count v.site_after) v
       → v.files named.old_path ≡ Some old → v.files named.new_path ≡ Some new
       → v.trusted_files job.trusted_old ≡ Some trusted_old → v.trusted_files job.trusted_new ≡ Some trusted_new
-      → RunsBeside limits list (asked_by s.options named) (asked_by s.options (trusted_of job)) old new trusted_old trusted_new r
+      → RunsLines limits list (asked_by s.options named) (asked_by s.options (trusted_of job)) old new trusted_old trusted_new r
       → SendsFront (lines_at_fault list (asked_by s.options named) (asked_by s.options (trusted_of job)) old new trusted_old trusted_new) r
       v.sinks.out_old v.sinks.out_new
   front_of fault None new trusted_old trusted_new r compares is_old is_new is_trusted_old is_trusted_new runs =

@@ -27,8 +27,8 @@ use Rattle.aide_session.specs.Files.{Files, is_too_large}
 use Rattle.aide_session.specs.GivenList.{list_line, list_of}
 use Rattle.aide_session.specs.Lines.{conf_line, too_large_line, unread_line}
 use Rattle.aide_session.proofs.Closings.{only_config}
-use Rattle.aide_line_run.specs.BesideLines.{lines_beside}
-use Rattle.aide_line_run.specs.BesideRuns.{RunsBeside, answer_by, over_sides}
+use Rattle.aide_line_run.specs.Lines.{lines_of_texts}
+use Rattle.aide_line_run.specs.RunEnds.{RunsLines, answer_by, over_sides}
 use Rattle.aide_line_run.specs.Listed.{ListRead}
 use Rattle.aide_line_run.specs.declared.pair_fault.PairFault.{PairFault}
 use Rattle.aide_line_run.specs.declared.pair_fault.PairFault.TheVariants.{Compared, Trusted}
@@ -71,13 +71,13 @@ answer_exists (Ok report) (Ok other) None whole = absurd (whole tt tt)
 answer_exists (Ok report) (Ok other) (Some over) whole = (Ok over, refl)
 
 -- What is at four sides has a right answer.
-pub RunsBeside-exists : (bounds : Limits) (list : ListRead) (wish trusted_wish : Asked) (old new trusted_old trusted_new : Option (List ℕ))
-    → 14 ≤ bounds.line → (r : Result Report PairFault) × RunsBeside bounds list wish trusted_wish old new trusted_old trusted_new r
-RunsBeside-exists bounds list wish trusted_wish old new trusted_old trusted_new least =
+pub RunsLines-exists : (bounds : Limits) (list : ListRead) (wish trusted_wish : Asked) (old new trusted_old trusted_new : Option (List ℕ))
+    → 14 ≤ bounds.line → (r : Result Report PairFault) × RunsLines bounds list wish trusted_wish old new trusted_old trusted_new r
+RunsLines-exists bounds list wish trusted_wish old new trusted_old trusted_new least =
     let compared = RunsOver-exists bounds wish old new least in
     let trusted = RunsOver-exists bounds trusted_wish trusted_old trusted_new least in
-    let r = answer_exists compared.0 trusted.0 (over_sides (lines_beside list wish trusted_wish) old new trusted_old trusted_new)
-    (λ okay other. whole (lines_beside list wish trusted_wish) old new trusted_old trusted_new
+    let r = answer_exists compared.0 trusted.0 (over_sides (lines_of_texts list wish trusted_wish) old new trusted_old trusted_new)
+    (λ okay other. whole (lines_of_texts list wish trusted_wish) old new trusted_old trusted_new
     (both_there bounds wish old new compared.0 compared.1 okay)
     (both_there bounds trusted_wish trusted_old trusted_new trusted.0 trusted.1 other)) in (
       r.0,
@@ -118,7 +118,7 @@ module _ (files trusted_files : Files) (job : LineJobText) (list : ListRead) (te
         let new = tells.databases text known s reads new_path.0 (inr new_path.1) in
         let trusted_old = tells.trusted Old in
         let trusted_new = tells.trusted New in
-        let run = RunsBeside-exists limits list (asked_by s.options named) (asked_by s.options (trusted_of job)) old.0 new.0 trusted_old.0
+        let run = RunsLines-exists limits list (asked_by s.options named) (asked_by s.options (trusted_of job)) old.0 new.0 trusted_old.0
         trusted_new.0 (omega arith) in
         let a = line_answer (lines_at_fault list (asked_by s.options named) (asked_by s.options (trusted_of job)) old.0 new.0 trusted_old.0
         trusted_new.0) named (trusted_of job) run.0 in

@@ -25,8 +25,8 @@ use Rattle.aide_session.specs.GivenList.{list_line, list_of}
 use Rattle.aide_session.proofs.LineExistence.{lines_answered}
 use Rattle.aide_session.proofs.LineEndings.{list_is}
 use Rattle.aide_session.proofs.Endings.{same_some}
-use Rattle.aide_line_run.specs.BesideLines.{lines_beside}
-use Rattle.aide_line_run.specs.BesideRuns.{RunsBeside, answer_by, over_sides}
+use Rattle.aide_line_run.specs.Lines.{lines_of_texts}
+use Rattle.aide_line_run.specs.RunEnds.{RunsLines, answer_by, over_sides}
 use Rattle.aide_line_run.specs.Listed.{ListRead}
 use Rattle.aide_line_run.specs.declared.pair_fault.PairFault.{PairFault}
 use Rattle.aide_words.specs.LineJob.{LineJobText}
@@ -36,7 +36,7 @@ use Rattle.aide_words.specs.LineJob.{LineJobText}
 pub line_answer_by_what_is_asked : (files trusted_files : Files) (words : List (List ℕ)) (job : LineJobText)
     (list : ListRead) (named : Named) (settings : Configured) (old new trusted_old trusted_new : List ℕ) (run : Result Report PairFault)
     → AsksForLines files trusted_files words job list named settings old new trusted_old trusted_new
-    → RunsBeside limits list (asked_by settings.options named) (asked_by settings.options (trusted_of job))
+    → RunsLines limits list (asked_by settings.options named) (asked_by settings.options (trusted_of job))
     (Some old) (Some new) (Some trusted_old) (Some trusted_new) run
     → IsLineAnswer files trusted_files job named (line_answer
     (lines_at_fault list (asked_by settings.options named) (asked_by settings.options (trusted_of job))
@@ -103,10 +103,10 @@ one_answer_by (Ok report) (Ok other) (Some over) r s p q = p ∙ sym q
 pub four_sides_have_one_answer : (limits : Limits) (list : ListRead) (wish trusted_wish : Asked)
     (old new trusted_old trusted_new : Option (List ℕ))
     (r s : Result Report PairFault)
-    → RunsBeside limits list wish trusted_wish old new trusted_old trusted_new r
-    → RunsBeside limits list wish trusted_wish old new trusted_old trusted_new s → r ≡ s
+    → RunsLines limits list wish trusted_wish old new trusted_old trusted_new r
+    → RunsLines limits list wish trusted_wish old new trusted_old trusted_new s → r ≡ s
 four_sides_have_one_answer limits list wish trusted_wish old new trusted_old trusted_new r s p q =
-    let over = over_sides (lines_beside list wish trusted_wish) old new trusted_old trusted_new in
+    let over = over_sides (lines_of_texts list wish trusted_wish) old new trusted_old trusted_new in
     let compared = RunsOver-unique limits wish old new q.compared p.compared q.compared_runs p.compared_runs in
     let trusted = RunsOver-unique limits trusted_wish trusted_old trusted_new q.trusted p.trusted q.trusted_runs p.trusted_runs in
     one_answer_by p.compared p.trusted over r s p.answer
@@ -128,12 +128,12 @@ module _ (files trusted_files : Files) (job : LineJobText) (list : ListRead) whe
       let tnew = one_file (trusted_files job.trusted_new) p.trusted_new_file q.trusted_new_file p.trusted_new_told q.trusted_new_told in
       let wish = asked_by s.options named in
       let trusted_wish = asked_by s.options (trusted_of job) in
-      let runs = subst (λ (o : Option (List ℕ)). RunsBeside limits list wish trusted_wish o p.new_file p.trusted_old_file p.trusted_new_file
+      let runs = subst (λ (o : Option (List ℕ)). RunsLines limits list wish trusted_wish o p.new_file p.trusted_old_file p.trusted_new_file
       q.run) old
-      (subst (λ (o : Option (List ℕ)). RunsBeside limits list wish trusted_wish q.old_file o p.trusted_old_file p.trusted_new_file q.run)
+      (subst (λ (o : Option (List ℕ)). RunsLines limits list wish trusted_wish q.old_file o p.trusted_old_file p.trusted_new_file q.run)
       new
-      (subst (λ (o : Option (List ℕ)). RunsBeside limits list wish trusted_wish q.old_file q.new_file o p.trusted_new_file q.run) told
-      (subst (λ (o : Option (List ℕ)). RunsBeside limits list wish trusted_wish q.old_file q.new_file q.trusted_old_file o q.run)
+      (subst (λ (o : Option (List ℕ)). RunsLines limits list wish trusted_wish q.old_file q.new_file o p.trusted_new_file q.run) told
+      (subst (λ (o : Option (List ℕ)). RunsLines limits list wish trusted_wish q.old_file q.new_file q.trusted_old_file o q.run)
       tnew q.runs)))
       in
       let run = four_sides_have_one_answer limits list wish trusted_wish p.old_file p.new_file p.trusted_old_file p.trusted_new_file

@@ -40,8 +40,8 @@ use Rattle.aide_session.proofs.Closings.{run_cause}
 use Rattle.aide_session.proofs.Comparisons.{caused_of}
 use Rattle.aide_session.proofs.Endings.{rose_later}
 use Rattle.aide_text.specs.declared.sink.Sink.{Ghosts as AnySink}
-use Rattle.aide_line_run.specs.BesideLines.{AreLinesBeside}
-use Rattle.aide_line_run.specs.BesideRuns.{CutsBeside, IsFaultOfPair, RunsBeside}
+use Rattle.aide_line_run.specs.Lines.{AreAllLines}
+use Rattle.aide_line_run.specs.RunEnds.{CutsLines, IsFaultOfPair, RunsLines}
 use Rattle.aide_line_run.specs.Listed.{ListRead}
 use Rattle.aide_line_run.specs.PairSeen.{PairSeen, pair_seen}
 use Rattle.aide_line_run.specs.Pairs.{OfEach}
@@ -168,9 +168,9 @@ compares_pairs src w e x y p q out_old out_new err_old err_new d f u v list wish
       over = λ old new trusted_old trusted_new is_old is_new is_trusted_old is_trusted_new r runs.
           ran.over old new trusted_old trusted_new (pointed.of_old old is_old, pointed.of_new new is_new)
           (trusted_pointed.of_old trusted_old is_trusted_old, trusted_pointed.of_new trusted_new is_trusted_new) r
-          (subst (λ (o : Asked). RunsBeside limits list wish o old new trusted_old trusted_new r) asks runs);
+          (subst (λ (o : Asked). RunsLines limits list wish o old new trusted_old trusted_new r) asks runs);
       cut = λ old new trusted_old trusted_new has_old has_new has_trusted_old has_trusted_new.
-          subst (λ (o : Asked). IfErr result (CutsBeside limits list wish o old new trusted_old trusted_new (w.delivered out_old)
+          subst (λ (o : Asked). IfErr result (CutsLines limits list wish o old new trusted_old trusted_new (w.delivered out_old)
           (w.delivered out_new))) (sym asks)
           (ran.cut old new trusted_old trusted_new (tells Old old has_old, tells New new has_new)
           (trusted_tells Old trusted_old has_trusted_old, trusted_tells New trusted_new has_trusted_new));
@@ -181,7 +181,7 @@ compares_pairs src w e x y p q out_old out_new err_old err_new d f u v list wish
       sound = on_ok_weaker result (λ sound side text has. sound side text (tells side text has)) ran.sound;
       trusted_sound = on_ok_weaker result (λ sound side text has. sound side text (trusted_tells side text has)) ran.trusted_sound;
       behind = sound_behind _ _ result (λ sound side text has. sound side text (tells side text has)) ran.behind;
-      consistent = subst (λ (o : Asked). IfOk result (λ outcome. AreLinesBeside list wish o outcome (w.delivered out_old)
+      consistent = subst (λ (o : Asked). IfOk result (λ outcome. AreAllLines list wish o outcome (w.delivered out_old)
           (w.delivered out_new)))
           (sym asks) ran.consistent;
       flushed = ran.flushed;

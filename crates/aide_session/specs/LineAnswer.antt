@@ -22,8 +22,8 @@ use Rattle.aide_session.specs.GivenList.{list_line, list_of}
 use Rattle.aide_session.specs.Lines.{conf_line, outcome_lines, too_large_line, unread_line}
 use Rattle.aide_session.specs.TrustedLines.{pair_fault_line, pair_fault_status}
 use Rattle.aide_text.specs.Sent.{SendsPart}
-use Rattle.aide_line_run.specs.BesideLines.{BeginsBeside}
-use Rattle.aide_line_run.specs.BesideRuns.{RunsBeside, changes_between}
+use Rattle.aide_line_run.specs.Lines.{BeginsLines}
+use Rattle.aide_line_run.specs.RunEnds.{RunsLines, changes_between}
 use Rattle.aide_line_run.specs.Listed.{Leaves, ListRead, leaves_between}
 use Rattle.aide_line_run.specs.declared.pair_fault.PairFault.{PairFault}
 use Rattle.aide_words.specs.LineJob.{LineJobText}
@@ -51,13 +51,13 @@ no_line = all_lines []
 abbrev pub HasWritten : LineOutput → (before after : Option (List ℕ)) → Type 0
 HasWritten (all_lines text) before after = Appends before after text
 HasWritten (start_of_lines leaves asked trusted changes trusted_changes) before after =
-    BeginsBeside leaves asked trusted changes trusted_changes before after
+    BeginsLines leaves asked trusted changes trusted_changes before after
 
 -- no more than a beginning of it has been written
 abbrev pub HasBegun : LineOutput → (before after : Option (List ℕ)) → Type 0
 HasBegun (all_lines text) before after = SendsPart text before after
 HasBegun (start_of_lines leaves asked trusted changes trusted_changes) before after =
-    BeginsBeside leaves asked trusted changes trusted_changes before after
+    BeginsLines leaves asked trusted changes trusted_changes before after
 
 -- what a session with a trusted pair writes to standard output and to standard error, and its
 -- status
@@ -95,7 +95,7 @@ line_answer at_fault named trusted (Err fault) = record {
 }
 
 -- The comparison of what is at the paths that the settings and the arguments name. At each path
--- there is a database or no file. The answer is that of `RunsBeside`: the lines over four maps, or
+-- there is a database or no file. The answer is that of `RunsLines`: the lines over four maps, or
 -- the first fault, in the order old, new, trusted old, trusted new.
 pub record ComparesForLines (files trusted_files : Files) (job : LineJobText) (list : ListRead)
     (s : Configured) (named : Named) (a : LineAnswer) : Type 0 where
@@ -110,7 +110,7 @@ pub record ComparesForLines (files trusted_files : Files) (job : LineJobText) (l
   pub trusted_old_told : trusted_files job.trusted_old ≡ Some trusted_old_file
   pub trusted_new_told : trusted_files job.trusted_new ≡ Some trusted_new_file
   pub run : Result Report PairFault
-  pub runs : RunsBeside limits list (asked_by s.options named)
+  pub runs : RunsLines limits list (asked_by s.options named)
       (asked_by s.options (trusted_of job)) old_file new_file trusted_old_file trusted_new_file run
   pub then_is : a ≡ line_answer (lines_at_fault list (asked_by s.options named)
       (asked_by s.options (trusted_of job)) old_file new_file trusted_old_file trusted_new_file)

@@ -35,8 +35,8 @@ use Rattle.aide_session.specs.Lines.{unread_line}
 use Rattle.aide_session.specs.TrustedLines.{pair_fault_line, pair_fault_status}
 use Rattle.aide_session.specs.TrustedLines.{trusted_database_line, trusted_open_line}
 use Rattle.aide_text.specs.Failures.{CountsFlush}
-use Rattle.aide_line_run.specs.BesideLines.{AreLinesBeside}
-use Rattle.aide_line_run.specs.BesideRuns.{CutsBeside, EndsBeside, RunsBeside}
+use Rattle.aide_line_run.specs.Lines.{AreAllLines}
+use Rattle.aide_line_run.specs.RunEnds.{CutsLines, EndsLines, RunsLines}
 use Rattle.aide_line_run.specs.Listed.{ListRead}
 use Rattle.aide_line_run.specs.Pairs.{OfEach}
 use Rattle.aide_line_run.specs.declared.pair_fault.PairFault.{PairFault}
@@ -232,9 +232,9 @@ pub record ComparesPairs (list : ListRead) (named trusted : Named) (options : Op
       → v.trusted_files trusted.old_path ≡ Some trusted_old
       → v.trusted_files trusted.new_path ≡ Some trusted_new
       → (r : Result Report PairFault)
-      → RunsBeside limits list (asked_by options named) (asked_by options trusted)
+      → RunsLines limits list (asked_by options named) (asked_by options trusted)
       old new trusted_old trusted_new r
-      → EndsBeside r (OfEach (IsHindered old new site (Rose v.out_before v.out_after))
+      → EndsLines r (OfEach (IsHindered old new site (Rose v.out_before v.out_after))
       (IsHindered trusted_old trusted_new (Rose v.trusted_before v.trusted_after) ⊥))
       result v.sinks.out_old v.sinks.out_new
   -- What has been written at a fault: never a byte of the last line, unless all four texts are sound
@@ -242,7 +242,7 @@ pub record ComparesPairs (list : ListRead) (named trusted : Named) (options : Op
   pub cut : (old new trusted_old trusted_new : List ℕ) → HasText v.files named Old old
       → HasText v.files named New new → HasText v.trusted_files trusted Old trusted_old
       → HasText v.trusted_files trusted New trusted_new
-      → IfErr result (CutsBeside limits list (asked_by options named) (asked_by options trusted)
+      → IfErr result (CutsLines limits list (asked_by options named) (asked_by options trusted)
       old new trusted_old trusted_new v.sinks.out_old v.sinks.out_new)
   -- Before all four databases are open nothing is written.
   pub unopened : IfErr result (OfEach (KeepsUnopened v.sinks.out_old v.sinks.out_new)
@@ -256,7 +256,7 @@ pub record ComparesPairs (list : ListRead) (named trusted : Named) (options : Op
   pub behind : IfErr result (OfEach (λ fault. ⊤) (λ fault. AreBothSound v.files named))
   -- For any sites, also those that show no files: what has been written is of the very outcome that is
   -- returned.
-  pub consistent : IfOk result (λ outcome. AreLinesBeside list (asked_by options named)
+  pub consistent : IfOk result (λ outcome. AreAllLines list (asked_by options named)
       (asked_by options trusted) outcome v.sinks.out_old v.sinks.out_new)
   -- The lines are flushed once, after their last byte, and after a fault not at all.
   pub flushed : OnOk result (v.course.is_flushed ≡ true)

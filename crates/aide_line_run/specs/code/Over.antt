@@ -23,7 +23,7 @@ OverMerge r merge desk Is = (old new : List ℕ) → StandsAt r.to_come merge de
 
 -- of the changes of two merges and of what a list leaves out, if the changes of the first one are in path order
 abbrev pub OverMerges : {R : Type 0} → Reels R → ListRead → Merge R → DeskView → Merge R
-    → DeskView → (Leaves → (changes beside : List PathChange) → Type 0)
+    → DeskView → (Leaves → (changes trusted_changes : List PathChange) → Type 0)
     → Type 0
 OverMerges r list merge desk trusted trusted_desk Is = (old new trusted_old trusted_new : List ℕ)
     → StandsAt r.to_come merge desk Old old → StandsAt r.to_come merge desk New new
@@ -44,5 +44,6 @@ pub record AreDone {R X E : Type 0} (r : Reels R) (list : ListRead) (options : O
   -- it is of the changes of the compared pair
   pub changes : OverMerge r m.compared d (λ all. IsDone result (changes_of done) all)
   -- if they are in path order, the entries of the trusted pair at their paths account for them, or the list
-  pub lines : OverMerges r list m.compared d m.trusted u (λ leaves all beside. IsDone result
-      (accounted_lines options done) (change_lines options (sought_by leaves beside) all))
+  pub lines : OverMerges r list m.compared d m.trusted u (λ leaves all trusted_changes.
+      IsDone result
+      (accounted_lines options done) (change_lines options (sought_by leaves trusted_changes) all))

@@ -90,5 +90,5 @@ pub record HasWalked {R X E : Type 0} (r : Reels R) (list : ListRead) (options :
   pub wrote : Wrote (first ++ accounted_lines options done) a b
   pub counted : IfOk result (λ answer. counts_in answer ≡ tally_of options done)
   pub counts : IfOk result (λ answer. OverMerges r list m.compared d m.trusted u
-      (λ leaves all beside.
-      counts_in answer ≡ tally options (sought_by leaves beside) all))
+      (λ leaves all trusted_changes.
+      counts_in answer ≡ tally options (sought_by leaves trusted_changes) all))

@@ -12,7 +12,7 @@ use Rattle.aide_merge.specs.declared.run_fault.RunFault.TheVariants.{Database, W
 use Rattle.aide_text.specs.Failures.{CountsFlush}
 use Rattle.aide_text.specs.Sent.{SendsPart}
 use Rattle.aide_text.specs.declared.sink.Sink.{Ghosts as Sinks}
-use Rattle.aide_line_run.specs.BesideLines.{PairFacts, closing_beside, opening_beside}
+use Rattle.aide_line_run.specs.Lines.{PairFacts, last_line, first_line}
 use Rattle.aide_line_run.specs.Pairs.{CountsPairWrites, OfCompared}
 use Rattle.aide_line_run.specs.Listed.{ListRead}
 use Rattle.aide_line_run.specs.Sought.{Accounted, accounted_lines, sought_by}
@@ -37,14 +37,14 @@ facts_found found = record {
 }
 
 -- what has been written, but the last line
-abbrev pub begun_beside : (asked trusted : Asked) → List Accounted → List ℕ
-begun_beside asked trusted done = opening_beside asked trusted ++ accounted_lines asked.options done
+abbrev pub lines_begun : (asked trusted : Asked) → List Accounted → List ℕ
+lines_begun asked trusted done = first_line asked trusted ++ accounted_lines asked.options done
 
 -- all lines
 abbrev pub told_beside : ListRead → (asked trusted : Asked) → List Accounted → PairsFound
     → List ℕ
-told_beside list asked trusted done found = begun_beside asked trusted done
-    ++ closing_beside list (facts_found found) found.counts
+told_beside list asked trusted done found = lines_begun asked trusted done
+    ++ last_line list (facts_found found) found.counts
 
 -- Both pairs were read to their ends.
 pub record ArePairsRead {R : Type 0} (r : Reels R) (m n : Merges R) (d e u v : DeskView)
@@ -63,8 +63,8 @@ pub record HasToldAll {R : Type 0} (r : Reels R) (list : ListRead)
   pub done : List Accounted
   pub are : AreDone {X = PairsFound} {E = PairFault} r list asked.options m d u done (Ok found)
   pub counted : found.counts ≡ tally_of asked.options done
-  pub counts : OverMerges r list m.compared d m.trusted u (λ leaves all beside.
-      found.counts ≡ tally asked.options (sought_by leaves beside) all)
+  pub counts : OverMerges r list m.compared d m.trusted u (λ leaves all trusted_changes.
+      found.counts ≡ tally asked.options (sought_by leaves trusted_changes) all)
   pub goes : Goes (told_beside list asked trusted done found)
 
 -- A beginning of the lines has been written, and no byte of the last one.
@@ -73,7 +73,7 @@ pub record CutsChanges {R : Type 0} (r : Reels R) (list : ListRead) (asked trust
     (fault : PairFault) : Type 0 where
   pub done : List Accounted
   pub are : AreDone {X = PairsFound} r list asked.options m d u done (Err fault)
-  pub part : SendsPart (begun_beside asked trusted done) before after
+  pub part : SendsPart (lines_begun asked trusted done) before after
 
 -- a write
 abbrev pub IsWrite : PairFault → Type 0

@@ -3,7 +3,7 @@ use Rattle.std.specs.Prelude.{Some}
 use Rattle.aide_session.specs.Answer.{asked_by, limits}
 use Rattle.aide_session.specs.LineAnswer.{line_answer, lines_at_fault, trusted_of}
 use Rattle.aide_session.specs.Trusted.{trusted_at}
-use Rattle.aide_session.proofs.LineExistence.{RunsBeside-exists}
+use Rattle.aide_session.proofs.LineExistence.{RunsLines-exists}
 use Rattle.aide_session.proofs.LineLaws.{line_answer_by_what_is_asked}
 use Rattle.aide_headline.proofs.LineLaws.{right_is_the_answer}
 use Rattle.aide_headline.proofs.lines_program.run_lines_program.Goals as goal
@@ -21,7 +21,7 @@ returns-clause-answer g c job list named settings old new trusted_old trusted_ne
 
 pub returns-clause-bound : goal.returns-clause-bound
 returns-clause-bound g c job list named settings old new trusted_old trusted_new asks =
-    let right = RunsBeside-exists limits list (asked_by settings.options named) (asked_by settings.options (trusted_of job)) (Some old)
+    let right = RunsLines-exists limits list (asked_by settings.options named) (asked_by settings.options (trusted_of job)) (Some old)
     (Some new) (Some trusted_old) (Some trusted_new) (omega arith) in
     (c.lines_session_on.ensures.session.compares job asks.job_is).bound named
     (line_answer (lines_at_fault list (asked_by settings.options named) (asked_by settings.options (trusted_of job)) (Some old) (Some new)
@@ -32,7 +32,7 @@ returns-clause-bound g c job list named settings old new trusted_old trusted_new
 
 pub returns-clause-trusted_bound : goal.returns-clause-trusted_bound
 returns-clause-trusted_bound g c job list named settings old new trusted_old trusted_new asks =
-    let right = RunsBeside-exists limits list (asked_by settings.options named) (asked_by settings.options (trusted_of job)) (Some old)
+    let right = RunsLines-exists limits list (asked_by settings.options named) (asked_by settings.options (trusted_of job)) (Some old)
     (Some new) (Some trusted_old) (Some trusted_new) (omega arith) in
     (c.lines_session_on.ensures.session.compares job asks.job_is).trusted_bound named
     (line_answer (lines_at_fault list (asked_by settings.options named) (asked_by settings.options (trusted_of job)) (Some old) (Some new)

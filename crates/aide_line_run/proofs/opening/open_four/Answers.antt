@@ -12,7 +12,7 @@ returns-in-Ok-open_in_order-clause-keeps g c =
 
 pub returns-in-Ok-open_in_order-clause-trusted_keeps : goal.returns-in-Ok-open_in_order-clause-trusted_keeps
 returns-in-Ok-open_in_order-clause-trusted_keeps g c =
-    keeps_begun c.in-Ok-open_in_order.ensures.reads (c.start-beside.ensures.desk (g.S.Sources.bytes_of c.args.trusted.now))
+    keeps_begun c.in-Ok-open_in_order.ensures.reads (c.start-merge.ensures.desk (g.S.Sources.bytes_of c.args.trusted.now))
 
 pub returns-in-Ok-open_in_order-clause-opened : goal.returns-in-Ok-open_in_order-clause-opened
 returns-in-Ok-open_in_order-clause-opened g c = record {
@@ -23,7 +23,7 @@ returns-in-Ok-open_in_order-clause-opened g c = record {
 
 pub returns-in-Ok-open_in_order-clause-trusted_opened : goal.returns-in-Ok-open_in_order-clause-trusted_opened
 returns-in-Ok-open_in_order-clause-trusted_opened g c = record {
-  opened = c.start-beside.ensures.opened (g.S.Sources.bytes_of c.args.trusted.now) c.in-Ok-open_in_order.ensures.gives;
+  opened = c.start-merge.ensures.opened (g.S.Sources.bytes_of c.args.trusted.now) c.in-Ok-open_in_order.ensures.gives;
   there = c.in-Ok-open_in_order.ensures.there;
   opens = c.in-Ok-open_in_order.ensures.reads.opens;
 }

@@ -3,7 +3,7 @@ use Rattle.aide_merge.specs.code.ChangeView.{change_of}
 use Rattle.aide_merge.specs.code.Merging.{remaining}
 use Rattle.aide_merge.proofs.UpcomingLemmas.{upcoming_none, upcoming_one}
 use Rattle.aide_line_run.proofs.SoughtLemmas.{found_here, found_other}
-use Rattle.aide_line_run.proofs.beside.found_at.Goals as goal
+use Rattle.aide_line_run.proofs.trusted.found_at.Goals as goal
 
 pub returns-in-None : goal.returns-in-None
 returns-in-None g c old new = search (rules, upcoming_none)

@@ -6,7 +6,7 @@ use Rattle.aide_merge.specs.code.Merging.{remaining}
 use Rattle.aide_merge.proofs.CallLemmas.{merge_fault, merge_none, merge_then}
 use Rattle.aide_line_run.proofs.SoughtLemmas.{seek_here, seek_none, seek_past}
 use Rattle.aide_merge.proofs.UpcomingLemmas.{upcoming_none, upcoming_one}
-use Rattle.aide_line_run.proofs.beside.seek.Goals as goal
+use Rattle.aide_line_run.proofs.trusted.seek.Goals as goal
 
 pub seek-init : goal.seek-init
 seek-init g c = search (rules, merge_none)

@@ -5,7 +5,7 @@ use Rattle.aide_merge.specs.code.ChangeView.{change_of}
 use Rattle.aide_line_run.specs.Sought.{seek}
 use Rattle.aide_merge.specs.code.MergeCalls.{KeepsMerge}
 use Rattle.aide_merge.specs.code.Merging.{remaining, IsReady, StandsAt, total_work}
-use Rattle.aide_line_run.proofs.beside.seek.Given as goal
+use Rattle.aide_line_run.proofs.trusted.seek.Given as goal
 
 abbrev pub invariant-seek : goal.invariant-seek
 invariant-seek g l = record {

@@ -7,7 +7,7 @@ use Rattle.aide_merge.proofs.PenLemmas.{flushed_whole, never_falls}
 use Rattle.aide_merge.proofs.PenLemmas.{rose_by_one, rose_of_pen, unfailed}
 use Rattle.aide_merge.specs.declared.run_fault.RunFault.TheVariants.{Write}
 use Rattle.aide_line_run.proofs.SettleLemmas.{first_of_stop, pair_counts, pair_written, stop_written}
-use Rattle.aide_line_run.proofs.write.write_beside.Goals as goal
+use Rattle.aide_line_run.proofs.write.write_lines.Goals as goal
 
 pub put_changes-requires : goal.put_changes-requires
 put_changes-requires g c = search rules
