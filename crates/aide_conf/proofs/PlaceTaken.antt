@@ -1,6 +1,6 @@
 -- What is taken at one place, by what its line says and by the blocks that are open before it.
 use Rattle.std.proofs.Common.{rules, ℕ, ◌≡◌, ◌<◌, Bool, true, false, List, [], ◌∷◌, ◌++◌, length, refl, sym, ap, subst}
-use Rattle.std.proofs.Common.{◌∙◌, arith, Option, Some, None, Result, Ok, Err, inl, inr}
+use Rattle.std.proofs.Common.{◌∙◌, Option, Some, None, Result, Ok, Err, inl, inr}
 use Rattle.std.specs.Prelude.{if◌then◌else◌, OnOk, ◌||◌, ◌&&◌, not, nat_lt, ◌==◌, is_none, String, drop}
 use Rattle.std.specs.Option.{option_or}
 use Rattle.std.proofs.lemmas.Bool.Decides.{nat_tests}
@@ -13,7 +13,6 @@ use Rattle.aide_conf.specs.declared.fault.ConfText.{ConfText}
 use Rattle.aide_conf.specs.declared.fault.ConfText.TheVariants.{Before, After}
 use Rattle.aide_conf.specs.declared.fault.ConfFaultKind.{ConfFaultKind}
 use Rattle.aide_conf.specs.declared.fault.ConfFaultKind.TheVariants.{StrayElse, StrayEndif, MissingEndif, LineTooLong, Memory}
-use Rattle.aide_conf.specs.declared.option_kind.Side.TheVariants.{Old, New}
 use Rattle.aide_conf.specs.declared.builder.SettingsBuilder.{SettingsBuilder}
 use Rattle.aide_conf.specs.declared.blocks.Frame.{Frame}
 use Rattle.std.specs.Borrow.{Bor}
@@ -33,13 +32,15 @@ use Rattle.aide_conf.specs.MarkedBlocks.{seen, seen_in, is_text}
 use Rattle.aide_conf.specs.MarkedGroups.{meaning_after, IsJudgedWell, expression_in}
 use Rattle.aide_conf.specs.MarkedVariables.{value, is_defined}
 use Rattle.aide_conf.specs.RightMarks.{Grows, IsMarkedWell}
-use Rattle.aide_conf.specs.MarkedPaths.{path_set}
 use Rattle.aide_conf.specs.PlaceFault.{line_fault, fault_at, end_fault, end_block_fault, missing}
 use Rattle.aide_conf.specs.code.Builder.{IsBuiltFrom, TakesOne, TakesEffect, fault_of, place_at, text_at}
 use Rattle.aide_conf.proofs.StackLemmas.{used_right, depth_right, divided_right, single_next, opens_next, divides_next, closes_next}
 use Rattle.aide_conf.proofs.ExpansionLemmas.{is_expansion}
 use Rattle.aide_conf.proofs.Built.{built_same}
 use Rattle.aide_conf.proofs.BoundedLemmas.{not_zero}
+
+abbrev Verdict : Type 0
+Verdict = Option (Result AttrSet ExprFault)
 
 -- ---- lines of one text
 
@@ -55,7 +56,7 @@ seen_in-more text (y ∷ ys) x e = search (rules, seen_in-more text ys x e)
 -- ---- the blocks after one more line
 
 module _ (here : List Seen) (fs : List Frame) (o : IsOpen here fs) (earlier : List Marked) (defined : List ℕ → Bool) (out : List ℕ)
-    (v : Option (Result AttrSet ExprFault)) where
+    (v : Verdict) where
   divides_well : (x : Seen) → x.role ≡ Divides → (gs : List Frame) → IsOpen here gs
       → (if length gs == 0 || top_divided gs then Some StrayElse else None) ≡ None
       → IsOpen (here ++ x ∷ []) (divided_at gs)
@@ -99,7 +100,17 @@ module _ (need : Need) (earlier : List Marked) (text : ConfText) (n : ℕ) (line
   abbrev effect_here : Effect
   effect_here = line_effect (top_used fs) line out
 
-  abbrev marked : Option (Result AttrSet ExprFault) → Marked
+  abbrev fault_here : Verdict → Option ConfFaultKind
+  fault_here v = line_fault earlier (length fs) (top_divided fs) effect_here v
+
+  -- the result of what the line says, and of the line
+  abbrev Said : {A : Type 0} → Effect → SettingsBuilder A → Result (Unit {0}) ConfFaultKind → Type 0
+  Said r q result = TakesEffect {E = Unit {0}} earlier (length fs) (top_divided fs) r q result
+
+  abbrev Taken : {A : Type 0} → SettingsBuilder A → List Frame → Result (Unit {0}) ConfFaultKind → Type 0
+  Taken q gs result = TakesOne {E = Unit {0}} need earlier (place_at text n (Some line)) q gs result
+
+  abbrev marked : Verdict → Marked
   marked v = record {
     place = place_at text n (Some line);
     used = top_used fs;
@@ -110,16 +121,15 @@ module _ (need : Need) (earlier : List Marked) (text : ConfText) (n : ℕ) (line
     verdict = v;
   }
 
-  says-marked : (v : Option (Result AttrSet ExprFault)) → says (marked v) ≡ effect_here
+  says-marked : (v : Verdict) → says (marked v) ≡ effect_here
   unfolding says
   says-marked v = refl
 
-  fault-marked : (v : Option (Result AttrSet ExprFault))
-      → fault_at need earlier (marked v) ≡ line_fault earlier (length fs) (top_divided fs) effect_here v
+  fault-marked : (v : Verdict) → fault_at need earlier (marked v) ≡ fault_here v
   unfolding fault_at says
   fault-marked v = refl
 
-  well : (v : Option (Result AttrSet ExprFault)) → IsJudgedWell (meaning_after earlier) (expression_in effect_here) v
+  well : (v : Verdict) → IsJudgedWell (meaning_after earlier) (expression_in effect_here) v
       → IsMarkedWell earlier (marked v)
   well v j = record {
     is_used = used_right (seen_in text earlier) fs (seen (marked v)) o refl;
@@ -141,11 +151,9 @@ module _ (need : Need) (earlier : List Marked) (text : ConfText) (n : ℕ) (line
 
   -- what is taken where the blocks are right afterwards
   takes_place : {A : Type 0} (gs : List Frame) (q : SettingsBuilder A) (result : Result (Unit {0}) ConfFaultKind)
-      → ((v : Option (Result AttrSet ExprFault)) → line_fault earlier (length fs) (top_divided fs) effect_here v ≡ None
-      → OnOk result (IsOpen (seen_in text earlier ++ seen (marked v) ∷ []) gs))
-      → (result ≡ Err Memory → line_grows (top_used fs) (length fs) line ≡ true)
-      → TakesEffect {E = Unit {0}} earlier (length fs) (top_divided fs) effect_here q result
-      → TakesOne {E = Unit {0}} need earlier (place_at text n (Some line)) q gs result
+      → ((v : Verdict) → fault_here v ≡ None → OnOk result (IsOpen (seen_in text earlier ++ seen (marked v) ∷ []) gs))
+      → (result ≡ Err Memory → line_grows (top_used fs) (length fs) line ≡ true) → Said effect_here q result
+      → Taken q gs result
   takes_place gs q (Ok u) b m t = (
     marked t.0,
     refl,
@@ -165,31 +173,25 @@ module _ (need : Need) (earlier : List Marked) (text : ConfText) (n : ℕ) (line
   unfolding line_effect
   skipped_says h = rw h refl
 
-  plain_after : directive_of line ≡ None → (v : Option (Result AttrSet ExprFault))
-      → IsOpen (seen_in text earlier ++ seen (marked v) ∷ []) fs
+  plain_after : directive_of line ≡ None → (v : Verdict) → IsOpen (seen_in text earlier ++ seen (marked v) ∷ []) fs
   plain_after e v = single_next (seen_in text earlier) fs (seen (marked v)) o (ap (λ i. is_single (role_of i)) e)
 
   -- an empty line or a comment
   pub skipped_line : {A : Type 0} (q : SettingsBuilder A) (u : Unit {0}) → is_skipped line ≡ true
-      → TakesEffect {E = Unit {0}} earlier (length fs) (top_divided fs) Nothing q (Ok u)
-      → TakesOne {E = Unit {0}} need earlier (place_at text n (Some line)) q fs (Ok u)
-  skipped_line {A} q u h t = takes_place fs q (Ok u) (λ v f. plain_after (skipped_directive h) v)
-      (λ e. let bad : Ok u ≡ Err Memory = e in cc)
-      (subst (λ r. TakesEffect {E = Unit {0}} earlier (length fs) (top_divided fs) r q (Ok u)) (sym (skipped_says h)) t)
+      → Said Nothing q (Ok u) → Taken q fs (Ok u)
+  skipped_line q u h t = takes_place fs q (Ok u) (λ v f. plain_after (skipped_directive h) v)
+      (λ e. let bad : Ok u ≡ Err Memory = e in cc) (subst (λ r. Said r q (Ok u)) (sym (skipped_says h)) t)
+
+  long_says : is_skipped line ≡ false → (top_used fs && nat_lt 65536 (length line)) ≡ true
+      → effect_here ≡ Faulty LineTooLong
+  unfolding line_effect
+  long_says h l = rw (h, l) refl
 
   -- a used line that is too long
   pub long_line : {A : Type 0} (gs : List Frame) (q : SettingsBuilder A) → is_skipped line ≡ false
-      → (top_used fs && nat_lt 65536 (length line)) ≡ true → TakesOne {E = Unit {0}} need earlier (place_at text n (Some line)) q gs
-      (Err LineTooLong)
-  unfolding line_effect
-  long_line {A} gs q h l =
-      let r : effect_here ≡ Faulty LineTooLong = rw (h, l) refl in
-      takes_place gs q (Err LineTooLong) (λ v f. tt) (λ e. let bad : LineTooLong ≡ Memory = cc in cc)
-      (inl (
-        None,
-        subst (λ z. IsJudgedWell (meaning_after earlier) (expression_in z) None) (sym r) refl,
-        ap (λ z. line_fault earlier (length fs) (top_divided fs) z None) r,
-      ))
+      → (top_used fs && nat_lt 65536 (length line)) ≡ true → Taken q gs (Err LineTooLong)
+  long_line gs q h l = takes_place gs q (Err LineTooLong) (λ v f. tt) (λ e. let bad : LineTooLong ≡ Memory = cc in cc)
+      (subst (λ r. Said r q (Err LineTooLong)) (sym (long_says h l)) (inl (None, refl, refl)))
 
   -- any other line
   module _ (h : is_skipped line ≡ false) (l : (top_used fs && nat_lt 65536 (length line)) ≡ false) where
@@ -204,66 +206,39 @@ module _ (need : Need) (earlier : List Marked) (text : ConfText) (n : ℕ) (line
 
     directive_after : (gs : List Frame)
         → gs ≡ frames_after (role_of (directive_of line)) (top_used fs) (directive_chooses (is_defined earlier) (directive_of line)) fs
-        → (v : Option (Result AttrSet ExprFault)) → line_fault earlier (length fs) (top_divided fs) effect_here v ≡ None
-        → IsOpen (seen_in text earlier ++ seen (marked v) ∷ []) gs
-    directive_after gs e v f = subst (IsOpen (seen_in text earlier ++ seen (marked v) ∷ [])) (sym e)
-        (blocks_after (seen_in text earlier) fs o earlier (is_defined earlier) out v (directive_of line) (seen (marked v)) refl refl refl
-        (sym (ap (λ r. line_fault earlier (length fs) (top_divided fs) r v) says_directive) ∙ f))
+        → (v : Verdict) → fault_here v ≡ None → IsOpen (seen_in text earlier ++ seen (marked v) ∷ []) gs
+    directive_after gs e v f = search (rules, blocks_after, says_directive)
 
     directive_taken : {A : Type 0} (gs : List Frame) (q : SettingsBuilder A) (result : Result (Unit {0}) ConfFaultKind)
         → OnOk result (gs ≡ frames_after (role_of (directive_of line)) (top_used fs)
         (directive_chooses (is_defined earlier) (directive_of line)) fs)
         → (result ≡ Err Memory → directive_grows (top_used fs) (length fs) (directive_of line) ≡ true)
-        → TakesEffect {E = Unit {0}} earlier (length fs) (top_divided fs) (directive_effect (top_used fs) (directive_of line) out) q result
-        → TakesOne {E = Unit {0}} need earlier (place_at text n (Some line)) q gs result
-    directive_taken gs q (Ok u) b m t = takes_place gs q (Ok u) (directive_after gs b) (λ e. grows_directive (m e))
-        (subst (λ r. TakesEffect {E = Unit {0}} earlier (length fs) (top_divided fs) r q (Ok u)) (sym says_directive) t)
-    directive_taken gs q (Err kind) b m t = takes_place gs q (Err kind) (λ v f. tt) (λ e. grows_directive (m e))
-        (subst (λ r. TakesEffect {E = Unit {0}} earlier (length fs) (top_divided fs) r q (Err kind)) (sym says_directive) t)
+        → Said (directive_effect (top_used fs) (directive_of line) out) q result → Taken q gs result
+    directive_taken gs q (Ok u) b m t = search (rules, takes_place, directive_after, grows_directive, says_directive)
+    directive_taken gs q (Err kind) b m t = search (rules, takes_place, grows_directive, says_directive)
 
     -- a directive
     pub directive_line : {A : Type 0} (i : Option (Directive (List ℕ))) (gs : List Frame) (q : SettingsBuilder A)
-        (result : Result (Unit {0}) ConfFaultKind)
-        → directive_of line ≡ i → directive_text line i ≡ directive_text [] i
+        (result : Result (Unit {0}) ConfFaultKind) → directive_of line ≡ i → directive_text line i ≡ directive_text [] i
         → OnOk result (gs ≡ frames_after (role_of i) (top_used fs) (directive_chooses (is_defined earlier) i) fs)
         → (result ≡ Err Memory → directive_grows (top_used fs) (length fs) i ≡ true)
-        → TakesEffect {E = Unit {0}} earlier (length fs) (top_divided fs)
-        (directive_effect (top_used fs) i (expansion_after (value earlier) 0 (directive_text [] i))) q result
-        → TakesOne {E = Unit {0}} need earlier (place_at text n (Some line)) q gs result
+        → Said (directive_effect (top_used fs) i (expansion_after (value earlier) 0 (directive_text [] i))) q result → Taken q gs result
     directive_line {A} i gs q result e f b m t = directive_taken gs q result
         (subst (λ z. OnOk result (gs ≡ frames_after (role_of z) (top_used fs) (directive_chooses (is_defined earlier) z) fs)) (sym e) b)
         (λ w. ap (directive_grows (top_used fs) (length fs)) e ∙ m w)
-        (subst (λ z. TakesEffect {E = Unit {0}} earlier (length fs) (top_divided fs)
-        (directive_effect (top_used fs) z (expansion_after (value earlier) 0 (directive_text line z))) q result) (sym e)
-        (subst (λ z. TakesEffect {E = Unit {0}} earlier (length fs) (top_divided fs)
-        (directive_effect (top_used fs) i (expansion_after (value earlier) 0 z)) q result) (sym f) t))
+        (subst (λ z. Said (directive_effect (top_used fs) z (expansion_after (value earlier) 0 (directive_text line z))) q result) (sym e)
+        (subst (λ z. Said (directive_effect (top_used fs) i (expansion_after (value earlier) 0 z)) q result) (sym f) t))
 
     -- a line that is no directive
     pub plain_line : {A : Type 0} (q : SettingsBuilder A) (result : Result (Unit {0}) ConfFaultKind) → is_directive line ≡ false
         → (result ≡ Err Memory → top_used fs ≡ true)
-        → TakesEffect {E = Unit {0}} earlier (length fs) (top_divided fs)
-        (if top_used fs then expanded_effect (strip (expansion_after (value earlier) 0 line)) else Nothing) q result
-        → TakesOne {E = Unit {0}} need earlier (place_at text n (Some line)) q fs result
+        → Said (if top_used fs then expanded_effect (strip (expansion_after (value earlier) 0 line)) else Nothing) q result
+        → Taken q fs result
     unfolding directive_of
-    plain_line q result d m t =
-        let e : directive_of line ≡ None = ap (λ z. if z then Some (read_directive (drop 2 line)) else None) d in
-        directive_taken fs q result (kept result e) (λ w. ap (directive_grows (top_used fs) (length fs)) e ∙ m w)
-        (subst (λ z. TakesEffect {E = Unit {0}} earlier (length fs) (top_divided fs)
-        (directive_effect (top_used fs) z (expansion_after (value earlier) 0 (directive_text line z))) q result) (sym e) t)
-      where
-        kept : (r : Result (Unit {0}) ConfFaultKind) → directive_of line ≡ None
-            → OnOk r (fs ≡ frames_after (role_of (directive_of line)) (top_used fs)
-            (directive_chooses (is_defined earlier) (directive_of line)) fs)
-        kept (Ok u) e = ap (λ z. frames_after (role_of z) (top_used fs) (directive_chooses (is_defined earlier) z) fs) (sym e)
-        kept (Err k) e = tt
-
-  long_says : is_skipped line ≡ false → (top_used fs && nat_lt 65536 (length line)) ≡ true
-      → effect_here ≡ Faulty LineTooLong
-  unfolding line_effect
-  long_says h l = rw (h, l) refl
+    plain_line q result d m t = search (rules, directive_taken)
 
   -- the blocks behind this line, where it has no fault
-  blocks_behind : (v : Option (Result AttrSet ExprFault)) → fault_at need earlier (marked v) ≡ None
+  blocks_behind : (v : Verdict) → fault_at need earlier (marked v) ≡ None
       → (gs : List Frame) × IsOpen (seen_in text earlier ++ seen (marked v) ∷ []) gs
   blocks_behind v f = by_skip (is_skipped line) refl
     where
@@ -281,7 +256,7 @@ module _ (need : Need) (earlier : List Marked) (text : ConfText) (n : ℕ) (line
       by_skip false h = by_length h (top_used fs && nat_lt 65536 (length line)) refl
 
   -- This line is marked in some way, where its expression is judged in some way.
-  pub goes_on : ((v : Option (Result AttrSet ExprFault)) × IsJudgedWell (meaning_after earlier) (expression_in effect_here) v)
+  pub goes_on : ((v : Verdict) × IsJudgedWell (meaning_after earlier) (expression_in effect_here) v)
       → (x : Marked) × (x.place ≡ place_at text n (Some line)) × IsMarkedWell earlier x
       × (fault_at need earlier x ≡ None → (gs : List Frame) × IsOpen (seen_in text (earlier ++ x ∷ [])) gs)
   goes_on j = search (rules, well, blocks_behind, seen_in-more)
@@ -305,9 +280,7 @@ is_none-text_at (Some t) q h = ap is_none h
 
 pub missing_is : {A : Type 0} (earlier : List Marked) (p : SettingsBuilder A) → IsBuiltFrom earlier p
     → missing (is_none p.old_path) (is_none p.new_path) ≡ end_fault Compare After earlier
-missing_is earlier p s =
-    ap (λ z. missing z (is_none p.new_path)) (is_none-text_at p.old_path (path_set Old earlier) s.old_path)
-    ∙ ap (missing (is_none (path_set Old earlier))) (is_none-text_at p.new_path (path_set New earlier) s.new_path)
+missing_is earlier p s = search (rules, is_none-text_at)
 
 module _ (need : Need) (earlier : List Marked) (text : ConfText) (n : ℕ) (fs : List Frame) (o : IsOpen (seen_in text earlier) fs) where
   abbrev end_marked : Marked
@@ -359,9 +332,7 @@ module _ (need : Need) (earlier : List Marked) (text : ConfText) (n : ℕ) (fs :
 
   no_block : length fs ≡ 0
       → option_or (end_block_fault (length fs)) (end_fault need text earlier) ≡ end_fault need text earlier
-  no_block h =
-      let e : (length fs == 0) ≡ true = grind (arith, nat_tests) in
-      ap (λ z. option_or (if z then None else Some MissingEndif) (end_fault need text earlier)) e
+  no_block h = search (rules, nat_tests)
 
   pub ended : {A : Type 0} (p : SettingsBuilder A) → IsBuiltFrom earlier p → (u : Unit {0}) → length fs ≡ 0 → end_fault need text earlier
       ≡ None → TakesOne {E = Unit {0}} need earlier (place_at text n None) p fs (Ok u)
