@@ -52,12 +52,10 @@ pub record SetsNone (r : Effect) : Type 0 where
   pub name : variable_name_of r ≡ None
 
 defines_only : {n v : List ℕ} → SetsOnlyVariables (DefinesVariable n v)
-defines_only =
-    record { group = refl; fixing = refl; level = refl; switch = λ t. refl; attrs = λ l w. refl; path = λ d. refl }
+defines_only = assumption
 
 drops_only : {n : List ℕ} → SetsOnlyVariables (DropsVariable n)
-drops_only =
-    record { group = refl; fixing = refl; level = refl; switch = λ t. refl; attrs = λ l w. refl; path = λ d. refl }
+drops_only = assumption
 
 -- ---- groups
 
@@ -135,9 +133,7 @@ module _ {A : Type 0} (xs : List Marked) (x : Marked) (p : SettingsBuilder A) (s
 
   options_open : (o q : Options) → p.fixed ≡ false → fixes x ≡ false → AreOptions (counted xs) o
       → (AreOptions xs o → AreOptions (xs ++ x ∷ []) q) → AreOptions (counted (xs ++ x ∷ [])) q
-  options_open o q e f h step =
-      let n : list_any fixes xs ≡ false = sym s.fixed ∙ e in
-      subst (λ z. AreOptions z q) (sym (counted-more xs x n f)) (step (subst (λ z. AreOptions z o) (counted-open xs n) h))
+  options_open o q e f h step = search (rules, counted-more, counted-open)
 
   options_kept : (r : Effect) → says x ≡ r → fixes_by r ≡ false → level_by r ≡ None
       → ((t : Switch) → switch_by t r ≡ None) → ((l : AttrList) → attrs_by l r x.verdict ≡ None)
@@ -188,6 +184,19 @@ module _ {A : Type 0} (xs : List Marked) (x : Marked) (p : SettingsBuilder A) (s
       (stands_with (DropsVariable n) e drops_only q.variables
       (subst (HasVariables (xs ++ x ∷ [])) (sym t) (variables_unset xs x (values_of p.variables) s.variables n e)))
 
+  -- report options are set, or are fixed
+  options_set : (r : Effect) → says x ≡ r → group_name_of r ≡ None → path_by Old r ≡ None → path_by New r ≡ None → SetsNone r
+      → (o : Options) (b : Bool) → AreOptions (counted (xs ++ x ∷ [])) o → b ≡ list_any fixes (xs ++ x ∷ [])
+      → IsBuiltFrom (xs ++ x ∷ []) (record p { options = o; fixed = b })
+  options_set r e g old new n o b h f = record {
+    groups = groups_same xs x (names_of p.groups) s.groups (ap group_name_of e ∙ g);
+    variables = no_variables r e n;
+    options = h;
+    fixed = f;
+    old_path = path_kept Old (text_at p.old_path) s.old_path (ap (path_by Old) e ∙ old);
+    new_path = path_kept New (text_at p.new_path) s.new_path (ap (path_by New) e ∙ new);
+  }
+
   -- a report option is set
   pub built_option : (r : Effect) (o : Options) → says x ≡ r → fixes_by r ≡ false → group_name_of r ≡ None
       → path_by Old r ≡ None → path_by New r ≡ None → SetsNone r
@@ -195,39 +204,18 @@ module _ {A : Type 0} (xs : List Marked) (x : Marked) (p : SettingsBuilder A) (s
   built_option r o e f g a b n step = by p.fixed refl
     where
       by : (t : Bool) → p.fixed ≡ t → IsBuiltFrom (xs ++ x ∷ []) (if t then p else record p { options = o })
-      by true h = record {
-        groups = groups_same xs x (names_of p.groups) s.groups (ap group_name_of e ∙ g);
-        variables = no_variables r e n;
-        options = options_fixed p.options h s.options;
-        fixed = fixed_kept (ap fixes_by e ∙ f);
-        old_path = path_kept Old (text_at p.old_path) s.old_path (ap (path_by Old) e ∙ a);
-        new_path = path_kept New (text_at p.new_path) s.new_path (ap (path_by New) e ∙ b);
-      }
-      by false h = record {
-        groups = groups_same xs x (names_of p.groups) s.groups (ap group_name_of e ∙ g);
-        variables = no_variables r e n;
-        options = options_open p.options o h (ap fixes_by e ∙ f) s.options step;
-        fixed = fixed_kept (ap fixes_by e ∙ f);
-        old_path = path_kept Old (text_at p.old_path) s.old_path (ap (path_by Old) e ∙ a);
-        new_path = path_kept New (text_at p.new_path) s.new_path (ap (path_by New) e ∙ b);
-      }
+      by true h = options_set r e g a b n p.options p.fixed (options_fixed p.options h s.options) (fixed_kept (ap fixes_by e ∙ f))
+      by false h = options_set r e g a b n o p.fixed (options_open p.options o h (ap fixes_by e ∙ f) s.options step)
+          (fixed_kept (ap fixes_by e ∙ f))
 
   -- the report options are fixed
   pub built_fixed : says x ≡ EndsOptions → IsBuiltFrom (xs ++ x ∷ []) (record p { fixed = true })
-  built_fixed e = record {
-    groups = groups_same xs x (names_of p.groups) s.groups (ap group_name_of e);
-    variables = no_variables EndsOptions e (record { value = λ m. refl; name = refl });
-    options = by p.fixed refl;
-    fixed = sym (list_any-more xs x ∙ ap (λ z. list_any fixes xs || z) (ap fixes_by e) ∙ or-true (list_any fixes xs));
-    old_path = path_kept Old (text_at p.old_path) s.old_path (ap (path_by Old) e);
-    new_path = path_kept New (text_at p.new_path) s.new_path (ap (path_by New) e);
-  }
+  built_fixed e = options_set EndsOptions e refl refl refl (record { value = λ m. refl; name = refl }) p.options true (by p.fixed refl)
+      (sym (list_any-more xs x ∙ ap (λ z. list_any fixes xs || z) (ap fixes_by e) ∙ or-true (list_any fixes xs)))
     where
       by : (b : Bool) → p.fixed ≡ b → AreOptions (counted (xs ++ x ∷ [])) p.options
       by true g = options_fixed p.options g s.options
-      by false g =
-          let n : list_any fixes xs ≡ false = sym s.fixed ∙ g in
-          subst (λ z. AreOptions z p.options) (counted-open xs n ∙ sym (counted-fixes xs x n (ap fixes_by e))) s.options
+      by false g = search (rules, counted-open, counted-fixes)
 
   -- a database is named
   pub built_named : (d : Side) (path : List ℕ) (q : SettingsBuilder A) → says x ≡ NamesDatabase d path → NamesPath d path p q
