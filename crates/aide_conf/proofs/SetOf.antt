@@ -36,9 +36,7 @@ bit_small false n = pow_pos (suc n)
 bits_small : (f : Attr → Bool) (n : ℕ) → bits f n < 2 ^ n
 unfolding bits
 bits_small f zero = pow_pos 0
-bits_small f (suc n) =
-    let below : 2 ^ n < 2 ^ suc n = pow_below n (suc n) (omega arith) in
-    or_lt (suc n) (bits f n) (bit_if (f (attr_of n)) n) (omega (arith, bits_small f n, below)) (bit_small (f (attr_of n)) n)
+bits_small f (suc n) = search (rules, pow_below, or_lt, bits, bit_if, attr_of, bit_small, bits_small f n)
 
 own_bit : (b : Bool) (n : ℕ) → (bit_at (bit_if b n) n == 1) ≡ b
 unfolding bit_if

@@ -163,15 +163,11 @@ module _ {A : Type 0} (E : Type 0) (earlier : List Marked) (depth : ℕ) (divide
 
   set_well : (name value : List ℕ) → is_word name ≡ true → (b : Bool) → nat_lt 4096 (length value) ≡ b
       → set_effect name value ≡ (if b then Faulty ValueTooLong else DefinesVariable name value)
-  set_well name value e b f = ap (λ z. if z then
-      (if nat_lt 4096 (length value) then Faulty ValueTooLong else DefinesVariable name value) else Faulty BadName) e
-      ∙ ap (λ z. if z then Faulty ValueTooLong else DefinesVariable name value) f
+  set_well name value e b f = search (rules)
 
   pub set_too_long : (name value : List ℕ) (q : SettingsBuilder A) → is_word name ≡ true → 4096 < length value
       → Taken (set_effect name value) q (Err ValueTooLong)
-  set_too_long name value q e l =
-      let f : nat_lt 4096 (length value) ≡ true = grind (arith, nat_tests) in
-      subst (λ r. Taken r q (Err ValueTooLong)) (sym (set_well name value e true f)) (faulty ValueTooLong q)
+  set_too_long name value q e l = search (rules, nat_tests, set_well, faulty)
 
   pub sets : (u : E) (name value : List ℕ) (q : SettingsBuilder A) → is_word name ≡ true → length value ≤ 4096
       → HasSpace (values_of p.variables) name
@@ -217,30 +213,23 @@ module _ {A : Type 0} (E : Type 0) (earlier : List Marked) (depth : ℕ) (divide
 
   pub answered_open : (good : Bool) (result : Result E ConfFaultKind)
       → IsAnswered (line_fault [] depth divided (OpensBlock good) None) result → Taken (OpensBlock good) p result
-  answered_open good = answered (OpensBlock good)
-      (record { group = refl; fixing = refl; level = refl; switch = λ t. refl; attrs = λ l v. refl; path = λ d. refl })
-      (record { value = λ n. refl; name = refl }) refl
+  answered_open good = search (rules, answered)
 
   pub answered_other : (used : Bool) (result : Result E ConfFaultKind)
       → IsAnswered (line_fault [] depth divided (if used then Faulty BadDirective else OpensBlock true) None) result
       → Taken (if used then Faulty BadDirective else OpensBlock true) p result
   answered_other true (Ok u) h = let bad : Some BadDirective ≡ None = h in cc
-  answered_other true (Err k) (inl h) = let e : BadDirective ≡ k = cc in
-      subst (λ z. Taken (Faulty BadDirective) p (Err z)) e (faulty BadDirective p)
+  answered_other true (Err k) (inl h) = search (rules, faulty)
   answered_other true (Err k) (inr h) = inr h
   answered_other false result h = answered_open true result h
 
   pub answered_divide : (result : Result E ConfFaultKind)
       → IsAnswered (line_fault [] depth divided DividesBlock None) result → Taken DividesBlock p result
-  answered_divide = answered DividesBlock (record
-      { group = refl; fixing = refl; level = refl; switch = λ t. refl; attrs = λ l v. refl; path = λ d. refl })
-      (record { value = λ n. refl; name = refl }) refl
+  answered_divide = search (rules, answered)
 
   pub answered_close : (result : Result E ConfFaultKind)
       → IsAnswered (line_fault [] depth divided ClosesBlock None) result → Taken ClosesBlock p result
-  answered_close = answered ClosesBlock (record
-      { group = refl; fixing = refl; level = refl; switch = λ t. refl; attrs = λ l v. refl; path = λ d. refl })
-      (record { value = λ n. refl; name = refl }) refl
+  answered_close = search (rules, answered)
 
   -- what is refused or has no effect
   pub refused_if : (b : Bool) (kind : ConfFaultKind) (result : Result E ConfFaultKind)
@@ -259,8 +248,7 @@ module _ {A : Type 0} (E : Type 0) (earlier : List Marked) (depth : ℕ) (divide
 
   not_skipped : (out : List ℕ) (b : Bool) → is_skipped out ≡ false → nat_lt 65536 (length out) ≡ b
       → expanded_effect out ≡ (if b then Faulty LineTooLong else kept_effect out)
-  not_skipped out b e f = ap (λ z. if z then Nothing else if nat_lt 65536 (length out) then Faulty LineTooLong else kept_effect out) e
-      ∙ ap (λ z. if z then Faulty LineTooLong else kept_effect out) f
+  not_skipped out b e f = search (rules)
 
   pub too_long : (out : List ℕ) (q : SettingsBuilder A) → is_skipped out ≡ false → nat_lt 65536 (length out) ≡ true
       → Taken (expanded_effect out) q (Err LineTooLong)

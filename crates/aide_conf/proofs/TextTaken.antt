@@ -1,6 +1,6 @@
 -- The lines of a text, taken one after another.
 use Rattle.std.proofs.Common.{rules, ℕ, ◌≡◌, ◌<◌, ◌+◌, List, [], ◌∷◌, ◌++◌, length, refl, sym, ap}
-use Rattle.std.proofs.Common.{subst, ◌∙◌, arith, Option, Some, None, Result, Ok, Err, append_assoc}
+use Rattle.std.proofs.Common.{subst, arith, Option, Some, None, Result, Ok, Err, append_assoc}
 use Rattle.std.specs.Prelude.{map, unwrap_or}
 use Rattle.aide_conf.specs.declared.task.Need.{Need}
 use Rattle.aide_conf.specs.declared.fault.ConfText.{ConfText}
@@ -53,8 +53,7 @@ starts need text p fs all e earlier none s = (
 
 sound_more : (need : Need) (earlier xs : List Marked) (x : Marked) → AreSound need earlier xs
     → IsMarkedWell (earlier ++ xs) x → fault_at need (earlier ++ xs) x ≡ None → AreSound need earlier (xs ++ x ∷ [])
-sound_more need earlier [] x h m f =
-    (subst (λ z. IsMarkedWell z x) (append_nothing earlier) m, subst (λ z. fault_at need z x ≡ None) (append_nothing earlier) f, tt)
+sound_more need earlier [] x h m f = search (rules, append_nothing)
 sound_more need earlier (y ∷ ys) x h m f = search (rules, append_assoc, sound_more need (earlier ++ y ∷ []) ys x h.2)
 
 map_more : (xs : List Marked) (x : Marked) (left : List Place)
@@ -82,8 +81,7 @@ module _ {A : Type 0} (need : Need) (text : ConfText) (start p q : SettingsBuild
 ends : {A : Type 0} (need : Need) (text : ConfText) (start q : SettingsBuilder A) (fs : List Frame) (all : List Place)
     → Going need text start q fs all [] → (earlier : List Marked) → seen_in text earlier ≡ [] → IsBuiltFrom earlier start
     → Takes need earlier all q
-ends need text start q fs all g earlier none s =
-    let r = g earlier none s in (r.0, sym (append_nothing _) ∙ r.1, r.2, r.3)
+ends need text start q fs all g earlier none s = search (rules, append_nothing)
 
 next_line : (text : ConfText) (n : ℕ) (rest : List ℕ) → 0 < length rest
     → places_from text n (lines_of rest) ≡ place_at text n (Some (strip (bytes_before is_newline rest))) ∷ places_from text (n + 1)
@@ -99,8 +97,7 @@ module _ {A : Type 0} (need : Need) (start p q : SettingsBuilder A) (fs gs : Lis
     (rest line : List ℕ) (h : 0 < length rest) (e : line ≡ strip (bytes_before is_newline rest))
     (g : Going need text start p fs all (places_from text n (lines_of rest))) where
   next : Going need text start p fs all (place_at text n (Some line) ∷ places_from text (n + 1) (lines_of (line_rest rest)))
-  next = subst (Going need text start p fs all)
-      (next_line text n rest h ∙ ap (λ z. place_at text n (Some z) ∷ places_from text (n + 1) (lines_of (line_rest rest))) (sym e)) g
+  next = search (rules, next_line)
 
   pub stop_line : (kind : ConfFaultKind) →
       ((earlier : List Marked) → IsBuiltFrom earlier p → IsOpen (seen_in text earlier) fs
@@ -123,8 +120,7 @@ module _ {A : Type 0} (need : Need) (start p : SettingsBuilder A) (fs : List Fra
       → TakesOne {E = Unit {0}} need earlier (place_at text n None) p fs (Err kind))
       → (earlier : List Marked) → seen_in text earlier ≡ [] → IsBuiltFrom earlier start
       → Stops need earlier all (record { text = text; line = n; kind = kind })
-  stop_end kind one = stops need text start p p fs fs all [] n None
-      (subst (Going need text start p fs all) (at_last text n rest h) g) kind one
+  stop_end kind one = search (rules, stops, at_last)
 
   pub take_end : (u : Unit {0}) → ((earlier : List Marked) → IsBuiltFrom earlier p → IsOpen (seen_in text earlier) fs
       → TakesOne {E = Unit {0}} need earlier (place_at text n None) p fs (Ok u))

@@ -22,8 +22,7 @@ places_append (x ∷ xs) ys = ap (λ z. x.place ∷ z) (places_append xs ys)
 sound_append : (need : Need) (earlier xs ys : List Marked) → AreSound need earlier xs → AreSound need (earlier ++ xs) ys
     → AreSound need earlier (xs ++ ys)
 sound_append need earlier [] ys h i = subst (λ z. AreSound need z ys) (append_nothing earlier) i
-sound_append need earlier (x ∷ xs) ys h i =
-    (h.0, h.1, sound_append need (earlier ++ x ∷ []) xs ys h.2 (subst (λ z. AreSound need z ys) (sym (append_assoc earlier (x ∷ []) xs)) i))
+sound_append need earlier (x ∷ xs) ys h i = search (rules, append_assoc, sound_append need (earlier ++ x ∷ []) xs ys h.2)
 
 -- ---- lines of other texts
 

@@ -14,9 +14,7 @@ before_file before xs e = unseen_at File (places_of Before before) xs e (elsewhe
 
 before_after : (before file : List ℕ) (xs : List Marked)
     → map (λ (x : Marked). x.place) xs ≡ places_of Before before ++ places_of File file → seen_in After xs ≡ []
-before_after before file xs e = unseen_at After (places_of Before before ++ places_of File file) xs e
-    (elsewhere_both After (places_of Before before) (places_of File file) (elsewhere After Before 1 (lines_of before) refl)
-    (elsewhere After File 1 (lines_of file) refl))
+before_after before file xs e = search (rules, unseen_at, elsewhere_both, elsewhere)
 
 pub returns-in-Err-clause-taken : goal.returns-in-Err-clause-taken
 returns-in-Err-clause-taken g c = search (rules, more_behind)

@@ -29,9 +29,7 @@ pub slice_bounds-read_directive-count : goal.slice_bounds-read_directive-count
 slice_bounds-read_directive-count g c = length-is_directive c.args.line.now (sym c.if-is_directive.ensures)
 
 pub slice_bounds-read_directive-start : goal.slice_bounds-read_directive-start
-slice_bounds-read_directive-start g c =
-    let k : 2 ≤ length c.args.line.now = length-is_directive c.args.line.now (sym c.if-is_directive.ensures) in
-    search rules
+slice_bounds-read_directive-start g c = search (rules, length-is_directive)
 
 pub returns-then-line-gt-LONGEST_LINE : goal.returns-then-line-gt-LONGEST_LINE
 returns-then-line-gt-LONGEST_LINE g c =

@@ -15,9 +15,7 @@ returns-in-Err-clause-taken g c =
     (λ earlier s o. c.in-Err.ensures c.args.need earlier c.args.text c.lines.line s o)
 
 pub lines-smaller : goal.lines-smaller
-lines-smaller g c =
-    let k : 0 < length c.lines.rest.now = search rules in
-    omega (arith, shorter c.lines.rest.now k, ap length c.cut_line.ensures.rest)
+lines-smaller g c = search (rules, shorter)
 
 pub lines-preserved : goal.lines-preserved
 lines-preserved g c =
