@@ -111,14 +111,14 @@ single_none a none = ap later_single none
 pub single_some : (a : List ℕ) → 0 < length a
     → later_single a ≡ single_line margin (take 32 a) ++ later_single (drop 32 a)
 unfolding single_lines
-single_some a some = ap (λ n. single_lines margin n a) count
+single_some a some = search (rules, count)
   where
     count : piece_count a ≡ suc (piece_count (drop 32 a))
     count = omega (arith, length-drop 32 a)
 
 pub single_first : (name a : List ℕ) → alone name a ≡ single_line (heading name) (take 32 a) ++ later_single (drop 32 a)
 unfolding alone single_lines
-single_first name a = ap (λ n. single_lines (heading name) n a) count
+single_first name a = search (rules, count)
   where
     count : max 1 (piece_count a) ≡ suc (piece_count (drop 32 a))
     count = omega (arith, length-drop 32 a)
@@ -135,8 +135,7 @@ same_test (suc m) (suc n) f g = grind arith
 
 -- a text has a byte where its first piece has one
 pub has_pieces : (a b : List ℕ) → has_lines (take 32 a) (take 32 b) ≡ has_lines a b
-has_pieces a b = same_test (length (take 32 a) + length (take 32 b)) (length a + length b)
-    (λ h. omega (arith, h, length-take 32 a, length-take 32 b)) (λ h. omega (arith, h, length-take 32 a, length-take 32 b))
+has_pieces a b = search (rules, same_test, length-take)
 
 pub next_by : (more : Bool) (a b : List ℕ) → more ≡ has_lines a b
     → (if more then pair_line margin (take 32 a) (take 32 b) else []) ≡ next_line a b

@@ -1,5 +1,5 @@
 -- What has gone out, piece by piece.
-use Rattle.std.proofs.Common.{◌≡◌, ◌∙◌, ℕ, ◌+◌, List, [], ◌++◌, take, drop, sym, ap, append_assoc, rules}
+use Rattle.std.proofs.Common.{◌≡◌, ◌∙◌, ℕ, ◌+◌, List, [], ◌++◌, take, drop, sym, append_assoc, rules}
 use Rattle.std.specs.Prelude.{Option, Some, None}
 use Rattle.std.proofs.Math.Seq.{take-add}
 use Rattle.std.proofs.lemmas.List.{append-nil}
@@ -10,8 +10,7 @@ pub Appends-Appends : (a b c : Option (List ℕ)) (xs ys : List ℕ) → Appends
 Appends-Appends None b c xs ys first then = tt
 Appends-Appends (Some x) None c xs ys first then = absurd first
 Appends-Appends (Some x) (Some y) None xs ys first then = absurd then
-Appends-Appends (Some x) (Some y) (Some z) xs ys first then =
-    then ∙ ap (λ bytes. bytes ++ ys) first ∙ append_assoc x xs ys
+Appends-Appends (Some x) (Some y) (Some z) xs ys first then = search (rules, append_assoc)
 
 pub Appends-Keeps : (a b c : Option (List ℕ)) (xs : List ℕ) → Appends a b xs → Keeps b c → Appends a c xs
 Appends-Keeps None b c xs grown kept = tt

@@ -41,8 +41,7 @@ nothing_by false a e = (record { bytes = Appends-nothing a.bytes; count = omega 
 
 by_flags : (text : List ℕ) (a b : Sheet) (f h : Bool) → a.failed ≡ f → b.failed ≡ h → b.flushes ≡ a.flushes
     → WroteBy f h text a b → Wrote text a b
-by_flags text a b f h is_f is_h unflushed p =
-    assumption (subst (λ x. WroteBy x b.failed text a b) (sym is_f) (subst (λ x. WroteBy f x text a b) (sym is_h) p))
+by_flags text a b f h is_f is_h unflushed p = search (rules)
 
 -- the sink has failed within the text
 pub wrote_cut : (text : List ℕ) (a b : Sheet) (n : ℕ) → a.failed ≡ false → b.failed ≡ true → n < length text
@@ -93,8 +92,7 @@ writing_part {text} {rest} {piece} more {a} {b} {c} is p q = record {
 }
 
 pub writing_done : {text rest : List ℕ} {a b : Sheet} → rest ≡ [] → Writing text rest a b → Wrote text a b
-writing_done {text} {rest} {a} {b} none p =
-    wrote_as (sym (p.whole ∙ ap (λ l. p.front ++ l) none ∙ append-nil p.front)) p.wrote
+writing_done {text} {rest} {a} {b} none p = search (rules, wrote_as, append-nil)
 
 pub writing_so_far : {text rest : List ℕ} {a b : Sheet} → Writing text rest a b → WritesPart text a b
 writing_so_far {text} {rest} {a} {b} p = record { rest = rest; writing = p }
@@ -107,8 +105,7 @@ pub part_as : {x y : List ℕ} {a b : Sheet} → x ≡ y → WritesPart x a b �
 part_as {x} {y} {a} {b} e p = subst (λ l. WritesPart l a b) e p
 
 pub part_whole : {text : List ℕ} {a b : Sheet} → Wrote text a b → WritesPart text a b
-part_whole {text} {a} {b} p =
-    record { rest = []; writing = record { front = text; whole = sym (append-nil text); wrote = p } }
+part_whole {text} {a} {b} p = search (rules, append-nil)
 
 pub part_nothing : (text : List ℕ) (a : Sheet) → WritesPart text a a
 part_nothing text a = writing_so_far (writing_start text a)
@@ -142,10 +139,8 @@ some_by : (text : List ℕ) (a b : Sheet) (f h : Bool) → a.failed ≡ f → b.
     → (sent : List ℕ) × Appends a.bytes b.bytes sent × (b.sent ≡ sum_of a.sent (length sent)) × (a.failures ≤ b.failures)
     × (h ≡ true → b.failures ≡ one_more a.failures)
 some_by text a b true h is_f is_h fresh p = absurd (true≢false fresh)
-some_by text a b false true is_f is_h fresh p =
-    (p.front, p.adds.bytes, p.adds.count, omega (arith, p.failures), λ e. p.failures)
-some_by text a b false false is_f is_h fresh p =
-    (text, p.0.bytes, p.0.count, omega (arith, p.1), λ e. absurd (true≢false (sym e)))
+some_by text a b false true is_f is_h fresh p = search (rules)
+some_by text a b false false is_f is_h fresh p = search (rules, true≢false)
 
 -- what a fresh pen has written: some bytes, which it counts, and its sink's failures
 pub from_fresh : {a b : Sheet} → a.failed ≡ false → WritesSome a b
@@ -178,8 +173,7 @@ wrote_whole {text} {a} {b} fresh on p = whole_by text a b a.failed b.failed fres
 part_by : (text : List ℕ) (a b : Sheet) (f h : Bool) → f ≡ false → WroteBy f h text a b → SendsPart text a.bytes b.bytes
 part_by text a b true h fresh p = absurd (true≢false fresh)
 part_by text a b false true fresh p = record { front = p.front; rest = p.rest; whole = p.whole; bytes = p.adds.bytes }
-part_by text a b false false fresh p =
-    record { front = text; rest = []; whole = sym (append-nil text); bytes = p.0.bytes }
+part_by text a b false false fresh p = search (rules, append-nil)
 
 -- a part of a text that a pen has written has gone out
 pub wrote_part : {text : List ℕ} {a b : Sheet} → a.failed ≡ false → WritesPart text a b → SendsPart text a.bytes b.bytes

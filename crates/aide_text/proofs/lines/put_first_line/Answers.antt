@@ -9,8 +9,7 @@ unfolding pair_line
 returns-then-name-gt10 g c = wrote_more c.put_heading.ensures c.put_pair.ensures
 
 pub lay_pair-len-requires-clause-blank : goal.lay_pair-len-requires-clause-blank
-lay_pair-len-requires-clause-blank g c =
-    heading_blank c.lay_name.new.line c.args.name.now c.if-name-gt10.false c.lay_name.ensures
+lay_pair-len-requires-clause-blank g c = search (rules, heading_blank)
 
 pub returns : goal.returns
 returns g c = search (rules, wrote_as, heading_head)

@@ -1,4 +1,4 @@
-use Rattle.std.proofs.Common.{rules, ◌∙◌, sym}
+use Rattle.std.proofs.Common.{rules}
 use Rattle.aide_text.proofs.Pieces.{later_lines, first_line, lines_fall, short_piece, some_lines, no_lines}
 use Rattle.aide_text.proofs.Sheets.{writing_start, writing_more, writing_as, writing_done, wrote_as}
 use Rattle.aide_text.proofs.lines.put_texts_side_by_side.Goals as goal
@@ -25,5 +25,4 @@ pub lines-preserved : goal.lines-preserved
 lines-preserved g c = search (rules, writing_as, later_lines, writing_more, some_lines, wrote_as)
 
 pub returns : goal.returns
-returns g c =
-    writing_done (no_lines c.lines.old_rest.now c.lines.new_rest.now (sym c.has_rest.ensures ∙ c.lines-test.false)) c.lines.invariant
+returns g c = search (rules, writing_done, no_lines)

@@ -1,9 +1,9 @@
-use Rattle.std.proofs.Common.{arith, ap, le_refl}
+use Rattle.std.proofs.Common.{rules}
+use Rattle.std.proofs.Common.{ap, le_refl}
 use Rattle.aide_text.proofs.memory_sink.MemorySinkSink.write.Goals as goal
 
 pub returns-in-Err-clause-fault : goal.returns-in-Err-clause-fault
-returns-in-Err-clause-fault g c =
-    omega (arith, c.saturating_add-self-inside.ensures, ap (λ sink. sink.failures) c.self.view_is)
+returns-in-Err-clause-fault g c = search (rules)
 
 pub returns-in-Ok-clause-some : goal.returns-in-Ok-clause-some
 returns-in-Ok-clause-some g c = (c.requires, le_refl _)
