@@ -15,12 +15,12 @@ ghost use Rattle.aide_line_run.specs.Listed.{ListRead};
 ghost use Rattle.aide_line_run.specs.declared.pair_fault.PairFault.{PairFault};
 ghost use Rattle.aide_words.specs.LineJob.{LineJobText};
 
-use aide_db::{Desk, Sources};
+use aide_db::Sources;
 use aide_report::Sink;
-use aide_session::{Site, Words, lines_session_on};
+use aide_session::{Site, SiteWithDesk, Words, lines_session_on};
 use std::alloc::Global;
 
-/// Runs the whole program that writes lines of JSON on these desks, by [`lines_session_on`].
+/// Runs the whole program that writes lines of JSON on these sites and desks, by [`lines_session_on`].
 ///
 /// All clauses begin with a comparison, a list without a fault (the empty text, if the arguments give none), and a text
 /// at each of the four paths. If the arguments name no trusted pair, its paths are empty, and the empty database is at
@@ -37,20 +37,18 @@ use std::alloc::Global;
 pub fn run_lines_program<S: Site, W: Sink, E: Sink>(
     alloc: Global,
     words: &Words,
-    desk: &mut Desk<Global>,
-    site: &mut S,
-    trusted_desk: &mut Desk<Global>,
-    trusted: &mut S,
+    compared: &mut SiteWithDesk<S>,
+    trusted: &mut SiteWithDesk<S>,
     out: &mut W,
     err: &mut E,
 ) -> u8
     ensures answer { (job : LineJobText) (list : ListRead) (named : Named)
         (settings : Configured)
         (old new trusted_old trusted_new : List ℕ)
-        → AsksForLines (S.file_at site.old) (trusted_at (S.file_at trusted.old)) words.now job list
-        named settings old new trusted_old trusted_new
-        → HasNoFailure (S.failures site.old) (S.failures site.new)
-        → HasNoFailure (S.failures trusted.old) (S.failures trusted.new)
+        → AsksForLines (S.file_at compared.old.site) (trusted_at (S.file_at trusted.old.site))
+        words.now job list named settings old new trusted_old trusted_new
+        → HasNoFailure (S.failures compared.old.site) (S.failures compared.new.site)
+        → HasNoFailure (S.failures trusted.old.site) (S.failures trusted.new.site)
         → HasNoFailure (W.failures out.old) (W.failures out.new)
         → (right : Result Report PairFault)
         → IsRightLineAnswer limits list (asked_by settings.options named)
@@ -65,19 +63,19 @@ pub fn run_lines_program<S: Site, W: Sink, E: Sink>(
     ensures bound { (job : LineJobText) (list : ListRead) (named : Named)
         (settings : Configured)
         (old new trusted_old trusted_new : List ℕ)
-        → AsksForLines (S.file_at site.old) (trusted_at (S.file_at trusted.old)) words.now job list
-        named settings old new trusted_old trusted_new
-        → desk.new.peak ≤ max desk.old.peak
+        → AsksForLines (S.file_at compared.old.site) (trusted_at (S.file_at trusted.old.site))
+        words.now job list named settings old new trusted_old trusted_new
+        → compared.new.desk.peak ≤ max compared.old.desk.peak
         (longest_line limits old + longest_line limits new
         + max (longest_line limits old) (longest_line limits new)) }
     ensures trusted_bound { (job : LineJobText) (list : ListRead) (named : Named)
         (settings : Configured)
         (old new trusted_old trusted_new : List ℕ)
-        → AsksForLines (S.file_at site.old) (trusted_at (S.file_at trusted.old)) words.now job list
-        named settings old new trusted_old trusted_new
-        → trusted_desk.new.peak ≤ max trusted_desk.old.peak
+        → AsksForLines (S.file_at compared.old.site) (trusted_at (S.file_at trusted.old.site))
+        words.now job list named settings old new trusted_old trusted_new
+        → trusted.new.desk.peak ≤ max trusted.old.desk.peak
         (longest_line limits trusted_old + longest_line limits trusted_new
         + max (longest_line limits trusted_old) (longest_line limits trusted_new)) }
 {
-    lines_session_on(alloc, words, desk, site, trusted_desk, trusted, out, err)
+    lines_session_on(alloc, words, compared, trusted, out, err)
 }

@@ -1,9 +1,9 @@
 //! The calls of a session that take memory. Each is made once more if memory is refused.
-use aide_db::{Desk, Side, Sources};
+use aide_db::{Side, Sources};
 use aide_report::WriteSink;
 use aide_session::{
-    Job, LineJob, Memory, MemorySite, Site, Words, WordsFault, lines_session_on, read_line_words,
-    read_words, session,
+    Job, LineJob, Memory, MemorySite, Site, SiteWithDesk, Words, WordsFault, lines_session_on,
+    read_line_words, read_words, session,
 };
 use arrayvec::ArrayVec;
 use std::alloc::Global;
@@ -219,23 +219,12 @@ pub(crate) fn run(
 fn lines_end_of<'a>(
     alloc: Global,
     words: &Words,
-    site: &mut MemorySite<'a>,
-    trusted: &mut MemorySite<'a>,
+    compared: &mut SiteWithDesk<MemorySite<'a>>,
+    trusted: &mut SiteWithDesk<MemorySite<'a>>,
 ) -> Ended {
     let mut out = WriteSink::new(ArrayVec::<u8, 4096>::new());
     let mut err = WriteSink::new(ArrayVec::<u8, 4096>::new());
-    let mut desk = Desk::new(alloc);
-    let mut trusted_desk = Desk::new(alloc);
-    let status = lines_session_on(
-        alloc,
-        words,
-        &mut desk,
-        site,
-        &mut trusted_desk,
-        trusted,
-        &mut out,
-        &mut err,
-    );
+    let status = lines_session_on(alloc, words, compared, trusted, &mut out, &mut err);
     Ended {
         status,
         output: out.into_inner(),
@@ -247,13 +236,13 @@ fn lines_end_of<'a>(
 pub(crate) fn run_lines<'a>(
     rt: &HostRuntime,
     words: &Words,
-    site: &mut MemorySite<'a>,
-    trusted: &mut MemorySite<'a>,
+    compared: &mut SiteWithDesk<MemorySite<'a>>,
+    trusted: &mut SiteWithDesk<MemorySite<'a>>,
 ) -> Result<(), Memory> {
-    let mut ended = lines_end_of(rt.alloc(), words, site, trusted);
+    let mut ended = lines_end_of(rt.alloc(), words, compared, trusted);
     if ended.is_starved() {
         tell(rt, "lines_session_on");
-        ended = lines_end_of(rt.alloc(), words, site, trusted);
+        ended = lines_end_of(rt.alloc(), words, compared, trusted);
         if ended.is_starved() {
             return Err(Memory);
         }

@@ -6,7 +6,7 @@ mod calls;
 mod rows;
 
 use aide_db::Side;
-use aide_session::{Memory, MemorySite, Words};
+use aide_session::{Memory, MemorySite, SiteWithDesk, Words};
 use calls::{add, job_of, line_job_of, point, push, run, run_lines};
 use rows::{CONF, LINES_ROWS, LinesRow, MODES_NEW, MODES_OLD, ROWS, Row, TRUSTED_OLD};
 use std::process::ExitCode;
@@ -48,7 +48,9 @@ fn play_lines(rt: &HostRuntime, row: &LinesRow) -> Result<(), Memory> {
     add(rt, &mut trusted, "/trusted_old", TRUSTED_OLD)?;
     add(rt, &mut trusted, "/trusted_new", row.trusted_new)?;
     line_job_of(rt, &words)?;
-    run_lines(rt, &words, &mut site, &mut trusted)
+    let mut compared = SiteWithDesk::new(rt.alloc(), site);
+    let mut trusted = SiteWithDesk::new(rt.alloc(), trusted);
+    run_lines(rt, &words, &mut compared, &mut trusted)
 }
 
 fn main(rt: HostRuntime) -> ExitCode {

@@ -2,8 +2,8 @@
 #![tactic(auto)]
 
 pub use aide_session::{
-    FileSite, Job, LineJob, Memory, MemorySite, Site, Word, Words, WordsFault, lines_session_on,
-    read_line_words, read_words, start_lines,
+    FileSite, Job, LineJob, Memory, MemorySite, Site, SiteWithDesk, Word, Words, WordsFault,
+    lines_session_on, read_line_words, read_words, start_lines,
 };
 use std::process::ExitCode;
 

@@ -30,4 +30,4 @@ pub use machine::{Ended, run_lines_paged, run_paged, start, start_lines};
 pub use memory_site::MemorySite;
 pub use paged_sink::PagedSink;
 pub use program::{session, session_on};
-pub use site::Site;
+pub use site::{Site, SiteWithDesk};

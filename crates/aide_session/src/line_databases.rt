@@ -7,7 +7,7 @@ ghost use Rattle.aide_session.specs.Lines.{memory_line};
 ghost use Rattle.aide_session.specs.Pointing.{KeepsFiles, KeepsOthers};
 ghost use Rattle.aide_session.specs.Trusted.{trusted_at};
 ghost use Rattle.aide_session.specs.code.LineParts.{IsPointed, files_of, line_view_between};
-ghost use Rattle.aide_session.specs.code.LineParts.{named_by};
+ghost use Rattle.aide_session.specs.code.LineParts.{lent_pair, named_by};
 ghost use Rattle.aide_session.specs.code.Parts.{AreSame};
 ghost use Rattle.aide_line_run.specs.ListView.{list_read};
 ghost use Rattle.aide_line_run.specs.SamePair.{AreSamePair};
@@ -15,7 +15,7 @@ ghost use Rattle.aide_line_run.specs.SamePair.{AreSamePair};
 use crate::databases::{LIMITS, LONGEST};
 use crate::devices::Devices;
 use crate::lines::{put_memory_line, put_outcome_lines};
-use crate::site::Site;
+use crate::site::{Site, SiteWithDesk};
 use crate::status::Status;
 use crate::telling::AsLine;
 use crate::trusted_lines::{pair_status, put_pair_fault};
@@ -98,7 +98,7 @@ fn compare_pairs<S: Site, W: Sink, E: Sink>(
         (named_by config (asked tasks.now.trusted.now)) tasks.now.compared.now.options result
         (Rose (S.failures devices.old.site.now) (S.failures devices.new.site.now))
         (line_view_between S.Sources W.Sink E.Sink devices.old devices.new
-        pair.old.desk.now pair.new.desk.now pair.old.sources.now pair.new.sources.now) }
+        (lent_pair pair.old) (lent_pair pair.new)) }
     ensures lookups { S.lookups devices.new.site.now ≡ S.lookups devices.old.site.now }
     ensures trusted_lookups { S.lookups pair.new.sources.now ≡ S.lookups pair.old.sources.now }
 {
@@ -118,30 +118,29 @@ fn compare_pairs<S: Site, W: Sink, E: Sink>(
 fn run_pairs<S: Site, W: Sink, E: Sink>(
     tasks: &Tasks<'_>,
     devices: &mut Devices<'_, AsLine, S, W, E>,
-    trusted_desk: &mut Desk<Global>,
-    trusted: &mut S,
+    trusted: &mut SiteWithDesk<S>,
 ) -> u8
     requires room { 1048576 ≤ devices.old.desk.now.room }
-    requires trusted_room { 1048576 ≤ trusted_desk.old.room }
+    requires trusted_room { 1048576 ≤ trusted.old.desk.room }
     ensures same { AreSame devices.old devices.new }
     ensures closes { (config : List ℕ)
         → IsPointed (S.file_at devices.old.site.now) (asked tasks.now.compared.now)
         (S.bytes_of devices.old.site.now) (S.is_missing devices.old.site.now)
-        → IsPointed (trusted_at (S.file_at trusted.old)) (asked tasks.now.trusted.now)
-        (S.bytes_of trusted.old) (S.is_missing trusted.old)
+        → IsPointed (trusted_at (S.file_at trusted.old.site)) (asked tasks.now.trusted.now)
+        (S.bytes_of trusted.old.site) (S.is_missing trusted.old.site)
         → tasks.now.trusted.now.options ≡ tasks.now.compared.now.options
         → ClosesCompared (list_read tasks.now.list)
         (named_by config (asked tasks.now.compared.now))
         (named_by config (asked tasks.now.trusted.now)) tasks.now.compared.now.options result
         (Rose (S.failures devices.old.site.now) (S.failures devices.new.site.now))
         (line_view_between S.Sources W.Sink E.Sink devices.old devices.new
-        trusted_desk.old trusted_desk.new trusted.old trusted.new) }
+        trusted.old trusted.new) }
     ensures lookups { S.lookups devices.new.site.now ≡ S.lookups devices.old.site.now }
-    ensures trusted_lookups { S.lookups trusted.new ≡ S.lookups trusted.old }
+    ensures trusted_lookups { S.lookups trusted.new.site ≡ S.lookups trusted.old.site }
 {
     let mut pair = TrustedPair {
-        desk: trusted_desk,
-        sources: trusted,
+        desk: &mut trusted.desk,
+        sources: &mut trusted.site,
     };
     compare_pairs(tasks, devices, &mut pair)
 }
@@ -151,23 +150,22 @@ fn run_pairs<S: Site, W: Sink, E: Sink>(
 pub(crate) fn compare_lines<S: Site, W: Sink, E: Sink>(
     tasks: &Tasks<'_>,
     devices: &mut Devices<'_, AsLine, S, W, E>,
-    trusted_desk: &mut Desk<Global>,
-    trusted: &mut S,
+    trusted: &mut SiteWithDesk<S>,
 ) -> u8
     ensures same { AreSame devices.old devices.new }
     ensures closes { (config : List ℕ)
         → tasks.now.trusted.now.options ≡ tasks.now.compared.now.options
         → StopsWith memory_line 22 result
         (line_view_between S.Sources W.Sink E.Sink devices.old devices.new
-        trusted_desk.old trusted_desk.new trusted.old trusted.new)
+        trusted.old trusted.new)
         ⊎ ClosesCompared (list_read tasks.now.list)
         (named_by config (asked tasks.now.compared.now))
         (named_by config (asked tasks.now.trusted.now)) tasks.now.compared.now.options result
         (Rose (S.failures devices.old.site.now) (S.failures devices.new.site.now))
         (line_view_between S.Sources W.Sink E.Sink devices.old devices.new
-        trusted_desk.old trusted_desk.new trusted.old trusted.new) }
+        trusted.old trusted.new) }
     ensures lookups { S.lookups devices.new.site.now ≡ S.lookups devices.old.site.now }
-    ensures trusted_lookups { S.lookups trusted.new ≡ S.lookups trusted.old }
+    ensures trusted_lookups { S.lookups trusted.new.site ≡ S.lookups trusted.old.site }
 {
     if let Err(Memory) = prepare(
         devices.alloc,
@@ -179,9 +177,15 @@ pub(crate) fn compare_lines<S: Site, W: Sink, E: Sink>(
         put_memory_line(devices.err);
         return Status::Memory as u8;
     }
-    if let Err(Memory) = prepare(devices.alloc, trusted_desk, trusted, tasks.trusted, true) {
+    if let Err(Memory) = prepare(
+        devices.alloc,
+        &mut trusted.desk,
+        &mut trusted.site,
+        tasks.trusted,
+        true,
+    ) {
         put_memory_line(devices.err);
         return Status::Memory as u8;
     }
-    run_pairs(tasks, devices, trusted_desk, trusted)
+    run_pairs(tasks, devices, trusted)
 }

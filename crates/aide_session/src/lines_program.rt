@@ -28,11 +28,10 @@ use crate::lines::{
 };
 use crate::program::run_job;
 use crate::put::pass_on;
-use crate::site::Site;
+use crate::site::{Site, SiteWithDesk};
 use crate::status::Status;
 use crate::telling::AsLine;
 use aide_conf::{ConfFault, ConfFaultKind, Need, Settings, Task};
-use aide_db::Desk;
 use aide_line_run::{LeftOutList, Tasks};
 use aide_patterns::{Exclusions, ListFaultKind};
 use aide_report::Sink;
@@ -59,8 +58,7 @@ fn compare_settings<S: Site, W: Sink, E: Sink>(
     list: LeftOutList<'_>,
     settings: &Settings,
     devices: &mut Devices<'_, AsLine, S, W, E>,
-    trusted_desk: &mut Desk<Global>,
-    trusted: &mut S,
+    trusted: &mut SiteWithDesk<S>,
 ) -> u8
     requires { IsSome settings.now.old_path × IsSome settings.now.new_path }
     ensures same { AreSame devices.old devices.new }
@@ -70,9 +68,9 @@ fn compare_settings<S: Site, W: Sink, E: Sink>(
         → EndsLinesBy (text_of_line_job job.now) result
         (S.failures devices.old.site.now)
         (line_view_between S.Sources W.Sink E.Sink devices.old devices.new
-        trusted_desk.old trusted_desk.new trusted.old trusted.new) }
+        trusted.old trusted.new) }
     ensures lookups { S.lookups devices.new.site.now ≡ S.lookups devices.old.site.now }
-    ensures trusted_lookups { S.lookups trusted.new ≡ S.lookups trusted.old }
+    ensures trusted_lookups { S.lookups trusted.new.site ≡ S.lookups trusted.old.site }
 {
     let Some(task) = settings.task() else {
         unreachable!()
@@ -87,7 +85,7 @@ fn compare_settings<S: Site, W: Sink, E: Sink>(
         trusted: &trusted_task,
         list,
     };
-    compare_lines(&tasks, devices, trusted_desk, trusted)
+    compare_lines(&tasks, devices, trusted)
 }
 
 /// Runs the session of a comparison, whose list and configuration have been read.
@@ -96,8 +94,7 @@ fn run_line_text<S: Site, W: Sink, E: Sink>(
     list: LeftOutList<'_>,
     text: &[u8],
     devices: &mut Devices<'_, AsLine, S, W, E>,
-    trusted_desk: &mut Desk<Global>,
-    trusted: &mut S,
+    trusted: &mut SiteWithDesk<S>,
 ) -> u8
     ensures same { AreSame devices.old devices.new }
     ensures closes { IsListOf job.now.without (list_read list.entry)
@@ -105,12 +102,12 @@ fn run_line_text<S: Site, W: Sink, E: Sink>(
         → EndsLinesBy (text_of_line_job job.now) result
         (S.failures devices.old.site.now)
         (line_view_between S.Sources W.Sink E.Sink devices.old devices.new
-        trusted_desk.old trusted_desk.new trusted.old trusted.new) }
+        trusted.old trusted.new) }
     ensures lookups { S.lookups devices.new.site.now ≡ S.lookups devices.old.site.now }
-    ensures trusted_lookups { S.lookups trusted.new ≡ S.lookups trusted.old }
+    ensures trusted_lookups { S.lookups trusted.new.site ≡ S.lookups trusted.old.site }
 {
     match read_line_settings(devices.alloc, job, text) {
-        Ok(settings) => compare_settings(job, list, &settings, devices, trusted_desk, trusted),
+        Ok(settings) => compare_settings(job, list, &settings, devices, trusted),
         Err(fault) => match fault.kind {
             ConfFaultKind::Memory => {
                 put_memory_line(devices.err);
@@ -129,21 +126,20 @@ fn run_listed<S: Site, W: Sink, E: Sink>(
     job: &LineJob,
     list: LeftOutList<'_>,
     devices: &mut Devices<'_, AsLine, S, W, E>,
-    trusted_desk: &mut Desk<Global>,
-    trusted: &mut S,
+    trusted: &mut SiteWithDesk<S>,
 ) -> u8
     ensures same { AreSame devices.old devices.new }
     ensures closes { IsListOf job.now.without (list_read list.entry)
         → EndsLinesBy (text_of_line_job job.now) result
         (S.failures devices.old.site.now)
         (line_view_between S.Sources W.Sink E.Sink devices.old devices.new
-        trusted_desk.old trusted_desk.new trusted.old trusted.new) }
+        trusted.old trusted.new) }
     ensures lookups { S.lookups devices.new.site.now ≤ one_more (S.lookups devices.old.site.now) }
-    ensures trusted_lookups { S.lookups trusted.new ≡ S.lookups trusted.old }
+    ensures trusted_lookups { S.lookups trusted.new.site ≡ S.lookups trusted.old.site }
 {
     let path = job.config.as_str();
     match read_config(devices.alloc, devices.site, path) {
-        Ok(text) => run_line_text(job, list, text.as_slice(), devices, trusted_desk, trusted),
+        Ok(text) => run_line_text(job, list, text.as_slice(), devices, trusted),
         Err(ConfigFault::TooLarge) => {
             put_too_large_line(devices.err);
             Status::Configuration as u8
@@ -164,46 +160,44 @@ fn run_ruled<S: Site, W: Sink, E: Sink>(
     job: &LineJob,
     rules: &Exclusions<'_>,
     devices: &mut Devices<'_, AsLine, S, W, E>,
-    trusted_desk: &mut Desk<Global>,
-    trusted: &mut S,
+    trusted: &mut SiteWithDesk<S>,
 ) -> u8
     ensures same { AreSame devices.old devices.new }
     ensures closes { HasRules job.now.without rules.now
         → EndsLinesBy (text_of_line_job job.now) result
         (S.failures devices.old.site.now)
         (line_view_between S.Sources W.Sink E.Sink devices.old devices.new
-        trusted_desk.old trusted_desk.new trusted.old trusted.new) }
+        trusted.old trusted.new) }
     ensures lookups { S.lookups devices.new.site.now ≤ one_more (S.lookups devices.old.site.now) }
-    ensures trusted_lookups { S.lookups trusted.new ≡ S.lookups trusted.old }
+    ensures trusted_lookups { S.lookups trusted.new.site ≡ S.lookups trusted.old.site }
 {
     let digest = digest_of(job.without.as_str().as_bytes());
     let list = LeftOutList {
         rules,
         digest: &digest,
     };
-    run_listed(job, list, devices, trusted_desk, trusted)
+    run_listed(job, list, devices, trusted)
 }
 
 /// Runs the session of a comparison.
 fn run_line_job<S: Site, W: Sink, E: Sink>(
     job: &LineJob,
     devices: &mut Devices<'_, AsLine, S, W, E>,
-    trusted_desk: &mut Desk<Global>,
-    trusted: &mut S,
+    trusted: &mut SiteWithDesk<S>,
 ) -> u8
     ensures same { AreSame devices.old devices.new }
     ensures closes { EndsLinesBy (text_of_line_job job.now) result
         (S.failures devices.old.site.now)
         (line_view_between S.Sources W.Sink E.Sink devices.old devices.new
-        trusted_desk.old trusted_desk.new trusted.old trusted.new) }
+        trusted.old trusted.new) }
     ensures unlooked { (fault : ListFault) → HasFirstFault job.now.without fault
         → S.lookups devices.new.site.now ≡ S.lookups devices.old.site.now }
     ensures lookups { S.lookups devices.new.site.now ≤ one_more (S.lookups devices.old.site.now) }
-    ensures trusted_lookups { S.lookups trusted.new ≡ S.lookups trusted.old }
+    ensures trusted_lookups { S.lookups trusted.new.site ≡ S.lookups trusted.old.site }
 {
     let text = job.without.as_str().as_bytes();
     match Exclusions::read(devices.alloc, text) {
-        Ok(rules) => run_ruled(job, &rules, devices, trusted_desk, trusted),
+        Ok(rules) => run_ruled(job, &rules, devices, trusted),
         Err(fault) => match fault.kind {
             ListFaultKind::Memory => {
                 put_memory_line(devices.err);
@@ -255,26 +249,25 @@ fn run_check_words<S: Site, W: Sink, E: Sink>(
 fn run_line_words<S: Site, W: Sink, E: Sink>(
     words: &Words,
     devices: &mut Devices<'_, AsLine, S, W, E>,
-    trusted_desk: &mut Desk<Global>,
-    trusted: &mut S,
+    trusted: &mut SiteWithDesk<S>,
 ) -> u8
     ensures same { AreSame devices.old devices.new }
     ensures alone { line_job_of words.now ≡ None
         → RunsAlone words.now result (part_between S.Sources W.Sink E.Sink devices.old devices.new)
         (trusted_between S.Sources W.Sink E.Sink devices.old devices.new trusted.old trusted.new)
-        (peaks_between devices.old devices.new trusted_desk.old trusted_desk.new) }
+        (peaks_between devices.old devices.new trusted.old trusted.new) }
     ensures compares { (job : LineJobText) → line_job_of words.now ≡ Some job
         → EndsLinesBy job result (S.failures devices.old.site.now)
         (line_view_between S.Sources W.Sink E.Sink devices.old devices.new
-        trusted_desk.old trusted_desk.new trusted.old trusted.new) }
+        trusted.old trusted.new) }
     ensures unlooked { (job : LineJobText) → line_job_of words.now ≡ Some job
         → (fault : ListFault) → HasFirstFault job.without fault
         → S.lookups devices.new.site.now ≡ S.lookups devices.old.site.now }
     ensures lookups { S.lookups devices.new.site.now ≤ one_more (S.lookups devices.old.site.now) }
-    ensures trusted_lookups { S.lookups trusted.new ≡ S.lookups trusted.old }
+    ensures trusted_lookups { S.lookups trusted.new.site ≡ S.lookups trusted.old.site }
 {
     match read_line_words(devices.alloc, words) {
-        Ok(job) => run_line_job(&job, devices, trusted_desk, trusted),
+        Ok(job) => run_line_job(&job, devices, trusted),
         Err(WordsFault::Usage) => run_check_words(words, devices),
         Err(WordsFault::Memory) => {
             put_memory_line(devices.err);
@@ -287,16 +280,15 @@ fn run_line_words<S: Site, W: Sink, E: Sink>(
 fn run_lines_and_pass_on<S: Site, W: Sink, E: Sink>(
     words: &Words,
     devices: &mut Devices<'_, AsLine, S, W, E>,
-    trusted_desk: &mut Desk<Global>,
-    trusted: &mut S,
+    trusted: &mut SiteWithDesk<S>,
 ) -> u8
     ensures same { AreSame devices.old devices.new }
     ensures session { IsLineSession words.now result
         (part_between S.Sources W.Sink E.Sink devices.old devices.new)
         (trusted_between S.Sources W.Sink E.Sink devices.old devices.new trusted.old trusted.new)
-        (peaks_between devices.old devices.new trusted_desk.old trusted_desk.new) }
+        (peaks_between devices.old devices.new trusted.old trusted.new) }
 {
-    let status = run_line_words(words, devices, trusted_desk, trusted);
+    let status = run_line_words(words, devices, trusted);
     pass_on(devices.err);
     status
 }
@@ -305,31 +297,32 @@ fn run_lines_and_pass_on<S: Site, W: Sink, E: Sink>(
 /// JSON in place of the report. Of a configuration that is only checked it writes one line, which says what the
 /// configuration sets.
 ///
-/// The arguments of a comparison may name a trusted pair of databases, which are then read from the second site. If
-/// they name none, the empty database stands for both, and no file of the second site is opened. The arguments may give
-/// a list of what is left out too. A fault of the list ends the session before any file is opened. If the arguments ask
-/// for no comparison, the second site and both desks are left alone.
+/// The first site is that of the configuration and of the two databases. The arguments of a comparison may name a
+/// trusted pair of databases too, which are then read from the second site. If they name none, the empty database is
+/// read for both, and no file of the second site is opened. The arguments may also give a list of what is left out. A
+/// fault of the list ends the session before any file is opened. If the arguments ask for no comparison, the second
+/// site and both desks are left alone.
 pub fn lines_session_on<S: Site, W: Sink, E: Sink>(
     alloc: Global,
     words: &Words,
-    desk: &mut Desk<Global>,
-    site: &mut S,
-    trusted_desk: &mut Desk<Global>,
-    trusted: &mut S,
+    compared: &mut SiteWithDesk<S>,
+    trusted: &mut SiteWithDesk<S>,
     out: &mut W,
     err: &mut E,
 ) -> u8
     ensures session { IsLineSession words.now result
-        (view_between S.Sources W.Sink E.Sink site.old site.new out.old out.new err.old err.new)
-        (view_between S.Sources W.Sink E.Sink trusted.old trusted.new out.old out.new
+        (view_between S.Sources W.Sink E.Sink compared.old.site compared.new.site out.old out.new
+        err.old err.new)
+        (view_between S.Sources W.Sink E.Sink trusted.old.site trusted.new.site out.old out.new
         err.old err.new)
         (record {
-          before = desk.old.peak;
-          after = desk.new.peak;
-          trusted_before = trusted_desk.old.peak;
-          trusted_after = trusted_desk.new.peak;
+          before = compared.old.desk.peak;
+          after = compared.new.desk.peak;
+          trusted_before = trusted.old.desk.peak;
+          trusted_after = trusted.new.desk.peak;
         }) }
 {
+    let SiteWithDesk { site, desk } = compared;
     let mut devices = Devices::new(AsLine, alloc, desk, site, out, err);
-    run_lines_and_pass_on(words, &mut devices, trusted_desk, trusted)
+    run_lines_and_pass_on(words, &mut devices, trusted)
 }

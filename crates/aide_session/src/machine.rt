@@ -1,6 +1,6 @@
 //! A session on the machine: its arguments, its files and its streams.
 ghost use Rattle.std.specs.Prelude.{◌≡◌, IfOk, OnErr, None};
-ghost use Rattle.aide_session.specs.LineSession.{DeskPeaks, IsLineSession};
+ghost use Rattle.aide_session.specs.LineSession.{IsLineSession};
 ghost use Rattle.aide_session.specs.Page.{empty_page};
 ghost use Rattle.aide_session.specs.Session.{IsSessionBy, view_between};
 ghost use Rattle.aide_words.specs.Job.{job_of};
@@ -9,9 +9,8 @@ use crate::file_site::FileSite;
 use crate::lines_program::lines_session_on;
 use crate::paged_sink::PagedSink;
 use crate::program::session;
-use crate::site::Site;
+use crate::site::{Site, SiteWithDesk};
 use crate::status::Status;
-use aide_db::Desk;
 use aide_report::{Sink, WriteSink};
 use aide_words::{Memory, Words};
 use std::alloc::Global;
@@ -86,50 +85,44 @@ pub fn start(rt: &HostRuntime) -> u8 {
 }
 
 /// Runs a session that writes lines of JSON, by [`lines_session_on`]. Its output and lines each go
-/// through an empty page, and both desks are its own. Memory for both pages is reserved before any
-/// file is opened. Only for them it may refuse to run.
+/// through an empty page. Memory for both pages is reserved before any file is opened. Only for them
+/// it may refuse to run.
 pub fn run_lines_paged<S: Site, W: Sink + Drop, E: Sink + Drop>(
     alloc: Global,
     words: &Words,
-    site: &mut S,
-    trusted: &mut S,
+    compared: &mut SiteWithDesk<S>,
+    trusted: &mut SiteWithDesk<S>,
     out: W,
     err: E,
 ) -> Result<Ended<W, E>, Memory>
-    ensures session { IfOk result (λ ended. (desks : DeskPeaks)
-        × IsLineSession words.now ended.status
+    ensures session { IfOk result (λ ended. IsLineSession words.now ended.status
         (view_between S.Sources ⟦<PagedSink<W> as Sink>⟧ ⟦<PagedSink<E> as Sink>⟧
-        site.old site.new (empty_page out) ended.out (empty_page err) ended.err)
+        compared.old.site compared.new.site (empty_page out) ended.out (empty_page err) ended.err)
         (view_between S.Sources ⟦<PagedSink<W> as Sink>⟧ ⟦<PagedSink<E> as Sink>⟧
-        trusted.old trusted.new (empty_page out) ended.out (empty_page err) ended.err) desks) }
-    ensures untouched { OnErr result (site.new ≡ site.old) }
+        trusted.old.site trusted.new.site (empty_page out) ended.out (empty_page err) ended.err)
+        (record {
+          before = compared.old.desk.peak;
+          after = compared.new.desk.peak;
+          trusted_before = trusted.old.desk.peak;
+          trusted_after = trusted.new.desk.peak;
+        })) }
+    ensures untouched { OnErr result (compared.new ≡ compared.old) }
     ensures trusted_untouched { OnErr result (trusted.new ≡ trusted.old) }
 {
     let mut out = PagedSink::new(alloc, out)?;
     let mut err = PagedSink::new(alloc, err)?;
-    let mut desk = Desk::new(alloc);
-    let mut trusted_desk = Desk::new(alloc);
-    let status = lines_session_on(
-        alloc,
-        words,
-        &mut desk,
-        site,
-        &mut trusted_desk,
-        trusted,
-        &mut out,
-        &mut err,
-    );
+    let status = lines_session_on(alloc, words, compared, trusted, &mut out, &mut err);
     Ok(Ended { status, out, err })
 }
 
 /// Runs the session of the command line that writes lines of JSON over the machine's files.
 fn run_lines_session(rt: &HostRuntime, alloc: Global) -> Result<u8, Memory> {
     let words = take_words(rt, alloc)?;
-    let mut site = FileSite::new(rt);
-    let mut trusted = FileSite::new(rt);
+    let mut compared = SiteWithDesk::new(alloc, FileSite::new(rt));
+    let mut trusted = SiteWithDesk::new(alloc, FileSite::new(rt));
     let out = WriteSink::new(rt.stdout());
     let err = WriteSink::new(rt.stderr());
-    let ended = run_lines_paged(alloc, &words, &mut site, &mut trusted, out, err)?;
+    let ended = run_lines_paged(alloc, &words, &mut compared, &mut trusted, out, err)?;
     Ok(ended.status)
 }
 

@@ -1,11 +1,12 @@
-//! Where the files of a session come from.
-ghost use Rattle.std.specs.Prelude.{◌≡◌, ◌≤◌, ℕ, true, List, Option, Some, None, IfOk, OnOk, OnErr};
+//! Where the files of a session come from, and the desk that holds what is read of them.
+ghost use Rattle.std.specs.Prelude.{◌≡◌, ◌≤◌, [], ℕ, true, List, Option, Some, None};
+ghost use Rattle.std.specs.Prelude.{IfOk, OnOk, OnErr};
 ghost use Rattle.aide_db.specs.Count.{one_more};
 ghost use Rattle.aide_session.specs.Files.{GivesFile};
 ghost use Rattle.aide_session.specs.Pointing.{KeepsFiles, KeepsOthers, KeepsSides, KeepsSite};
 ghost use Rattle.aide_session.specs.Trusted.{empty_database};
 
-use aide_db::{OpenFault, Reel, Side, Sources};
+use aide_db::{Desk, OpenFault, Reel, Side, Sources};
 use aide_words::Memory;
 use std::alloc::Global;
 
@@ -50,4 +51,30 @@ pub trait Site: Sources {
         ensures path { path_of self.new side ≡ None }
         ensures others { KeepsOthers Self.Sources path_of side self.old self.new }
         ensures keeps { KeepsFiles Self.Sources self.old self.new };
+}
+
+/// A site, with the desk that holds the bytes of its two databases.
+#[derive(Drop)]
+pub struct SiteWithDesk<S> {
+    /// What opens the files.
+    pub site: S,
+    /// What is held of the databases.
+    pub desk: Desk<Global>,
+}
+
+impl<S> SiteWithDesk<S> {
+    /// Returns a site with a desk that has held nothing. It allocates no memory.
+    pub fn new(alloc: Global, site: S) -> SiteWithDesk<S>
+        ensures site { result.site ≡ site }
+        ensures old { result.desk.old_line ≡ [] }
+        ensures new { result.desk.new_line ≡ [] }
+        ensures line { result.desk.line ≡ [] }
+        ensures peak { result.desk.peak ≡ 0 }
+        ensures room { result.desk.room ≡ 0 }
+    {
+        SiteWithDesk {
+            site,
+            desk: Desk::new(alloc),
+        }
+    }
 }

@@ -9,7 +9,7 @@ use super::session::{site_of, words_of};
 use aide_conf::{Need, Settings};
 use aide_db::{Desk, MemorySources};
 use aide_report::MemorySink;
-use aide_session::MemorySite;
+use aide_session::{MemorySite, SiteWithDesk};
 use by_clauses::{lines_on, report_on};
 use by_run::{LIMITS, Refusal, counts_of};
 use by_run_clauses::{
@@ -71,20 +71,18 @@ fn reports_by_session(rt: HostRuntime) -> Result<(), Fail> {
 
 /// The statuses of a session that writes the report and of one that writes lines, on one desk. It has no contract, so
 /// that the facts about both sessions are no part of the proof of the test.
-fn statuses_on(alloc: Global, desk: &mut Desk<Global>) -> Result<(u8, u8), Fail> {
+fn statuses_on_one_desk(alloc: Global) -> Result<(u8, u8), Fail> {
     let words = words_of(alloc, "aide -E -c /conf")?;
-    let mut site = site_of(alloc, CONFIG, OLD, NEW)?;
+    let mut compared = SiteWithDesk::new(alloc, site_of(alloc, CONFIG, OLD, NEW)?);
+    let mut trusted = SiteWithDesk::new(alloc, MemorySite::new(alloc));
     let mut out = MemorySink::new(alloc);
     let mut err = MemorySink::new(alloc);
-    let report = report_on(alloc, &words, desk, &mut site, &mut out, &mut err);
-    let mut trusted = MemorySite::new(alloc);
-    let mut trusted_desk = Desk::new(alloc);
+    let SiteWithDesk { site, desk } = &mut compared;
+    let report = report_on(alloc, &words, desk, site, &mut out, &mut err);
     let lines = lines_on(
         alloc,
         &words,
-        desk,
-        &mut site,
-        &mut trusted_desk,
+        &mut compared,
         &mut trusted,
         &mut out,
         &mut err,
@@ -94,8 +92,7 @@ fn statuses_on(alloc: Global, desk: &mut Desk<Global>) -> Result<(u8, u8), Fail>
 
 #[test]
 fn takes_the_promises_of_a_session(rt: HostRuntime) -> Result<(), Fail> {
-    let mut desk = Desk::new(rt.alloc());
-    let (report, lines) = statuses_on(rt.alloc(), &mut desk)?;
+    let (report, lines) = statuses_on_one_desk(rt.alloc())?;
     assert!(rt; report == 7 && lines == 7);
     Ok(())
 }

@@ -87,10 +87,10 @@ fn runs_the_whole_program(rt: HostRuntime) -> Result<(), Fail> {
 
 #[test]
 fn runs_the_whole_program_of_lines(rt: HostRuntime) -> Result<(), Fail> {
-    let mut site = site_of(rt.alloc(), CONF, MODE_644, MODE_600)?;
+    let site = site_of(rt.alloc(), CONF, MODE_644, MODE_600)?;
     let words = words_of(rt.alloc(), "aide -E -c /conf")?;
-    let mut trusted = MemorySite::new(rt.alloc());
-    let ended = program_ended(rt.alloc(), &words, &mut site, &mut trusted);
+    let trusted = MemorySite::new(rt.alloc());
+    let ended = program_ended(rt.alloc(), &words, site, trusted);
     assert!(rt; ended.status == 4, "status {}", ended.status);
     assert!(rt; ended.output.bytes() == LINES, "lines");
     Ok(())

@@ -1,9 +1,8 @@
 //! Sessions that write lines of JSON. Their output is that of the plain program in `tests/oracle`.
 use super::session::{CONF, Ended, site_of, words_of};
-use aide_db::Desk;
 use aide_headline::run_lines_program;
 use aide_report::MemorySink;
-use aide_session::{Memory, MemorySite, Site, Words, lines_session_on};
+use aide_session::{Memory, MemorySite, Site, SiteWithDesk, Words, lines_session_on};
 use std::alloc::Global;
 use std::test::Fail;
 
@@ -46,28 +45,17 @@ pub(super) fn are_cut(lines: &[u8]) -> bool {
     true
 }
 
-/// Runs a session on these desks. It has no contract, so that the many facts about `lines_session_on` are no part of
-/// the proofs of its callers.
+/// Runs a session on these sites and desks. It has no contract, so that the many facts about `lines_session_on` are no
+/// part of the proofs of its callers.
 pub(super) fn ended_on<S: Site>(
     alloc: Global,
     words: &Words,
-    desk: &mut Desk<Global>,
-    site: &mut S,
-    trusted_desk: &mut Desk<Global>,
-    trusted: &mut S,
+    compared: &mut SiteWithDesk<S>,
+    trusted: &mut SiteWithDesk<S>,
 ) -> Ended {
     let mut output = MemorySink::new(alloc);
     let mut errors = MemorySink::new(alloc);
-    let status = lines_session_on(
-        alloc,
-        words,
-        desk,
-        site,
-        trusted_desk,
-        trusted,
-        &mut output,
-        &mut errors,
-    );
+    let status = lines_session_on(alloc, words, compared, trusted, &mut output, &mut errors);
     Ended {
         status,
         output,
@@ -76,23 +64,21 @@ pub(super) fn ended_on<S: Site>(
 }
 
 /// What the whole program writes and returns. It has no contract, for the same reason.
-pub(super) fn program_ended<S: Site>(
+pub(super) fn program_ended<S: Site + Drop>(
     alloc: Global,
     words: &Words,
-    site: &mut S,
-    trusted: &mut S,
+    site: S,
+    trusted: S,
 ) -> Ended {
     let mut output = MemorySink::new(alloc);
     let mut errors = MemorySink::new(alloc);
-    let mut desk = Desk::new(alloc);
-    let mut trusted_desk = Desk::new(alloc);
+    let mut compared = SiteWithDesk::new(alloc, site);
+    let mut trusted = SiteWithDesk::new(alloc, trusted);
     let status = run_lines_program(
         alloc,
         words,
-        &mut desk,
-        site,
-        &mut trusted_desk,
-        trusted,
+        &mut compared,
+        &mut trusted,
         &mut output,
         &mut errors,
     );
@@ -105,42 +91,26 @@ pub(super) fn program_ended<S: Site>(
 
 #[test]
 fn writes_the_lines_of_changes(rt: HostRuntime) -> Result<(), Fail> {
-    let mut site = site_of(rt.alloc(), CONF, MODE_644, MODE_600)?;
+    let site = site_of(rt.alloc(), CONF, MODE_644, MODE_600)?;
     let words = words_of(rt.alloc(), "aide -E -c /conf")?;
-    let mut trusted = MemorySite::new(rt.alloc());
-    let mut desk = Desk::new(rt.alloc());
-    let mut trusted_desk = Desk::new(rt.alloc());
-    let ended = ended_on(
-        rt.alloc(),
-        &words,
-        &mut desk,
-        &mut site,
-        &mut trusted_desk,
-        &mut trusted,
-    );
+    let mut compared = SiteWithDesk::new(rt.alloc(), site);
+    let mut trusted = SiteWithDesk::new(rt.alloc(), MemorySite::new(rt.alloc()));
+    let ended = ended_on(rt.alloc(), &words, &mut compared, &mut trusted);
     assert!(rt; ended.status == 4, "status {}", ended.status);
     assert!(rt; ended.output.bytes() == LINES, "output");
     assert!(rt; ended.errors.bytes().is_empty(), "error lines");
     // The two entries are on the desk at once.
-    assert!(rt; desk.peak() >= 12 + 12);
+    assert!(rt; compared.desk.peak() >= 12 + 12);
     Ok(())
 }
 
 #[test]
 fn says_what_a_configuration_sets(rt: HostRuntime) -> Result<(), Fail> {
-    let mut site = site_of(rt.alloc(), CONF, MODE_644, MODE_600)?;
+    let site = site_of(rt.alloc(), CONF, MODE_644, MODE_600)?;
     let words = words_of(rt.alloc(), "aide -D -c /conf")?;
-    let mut trusted = MemorySite::new(rt.alloc());
-    let mut desk = Desk::new(rt.alloc());
-    let mut trusted_desk = Desk::new(rt.alloc());
-    let ended = ended_on(
-        rt.alloc(),
-        &words,
-        &mut desk,
-        &mut site,
-        &mut trusted_desk,
-        &mut trusted,
-    );
+    let mut compared = SiteWithDesk::new(rt.alloc(), site);
+    let mut trusted = SiteWithDesk::new(rt.alloc(), MemorySite::new(rt.alloc()));
+    let ended = ended_on(rt.alloc(), &words, &mut compared, &mut trusted);
     assert!(rt; ended.status == 0, "status {}", ended.status);
     assert!(rt; ended.output.bytes() == SETTINGS, "output");
     assert!(rt; ended.errors.bytes().is_empty(), "error lines");
@@ -149,13 +119,13 @@ fn says_what_a_configuration_sets(rt: HostRuntime) -> Result<(), Fail> {
 
 #[test]
 fn refuses_a_check_with_a_trusted_pair(rt: HostRuntime) -> Result<(), Fail> {
-    let mut site = site_of(rt.alloc(), CONF, MODE_644, MODE_600)?;
+    let site = site_of(rt.alloc(), CONF, MODE_644, MODE_600)?;
     let words = words_of(
         rt.alloc(),
         "aide_lines -D -c /conf --trusted-old /old --trusted-new /new",
     )?;
-    let mut trusted = MemorySite::new(rt.alloc());
-    let ended = program_ended(rt.alloc(), &words, &mut site, &mut trusted);
+    let trusted = MemorySite::new(rt.alloc());
+    let ended = program_ended(rt.alloc(), &words, site, trusted);
     assert!(rt; ended.status == 15, "status {}", ended.status);
     assert!(rt; ended.output.bytes().is_empty(), "output");
     Ok(())

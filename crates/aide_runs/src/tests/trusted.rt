@@ -1,8 +1,7 @@
 //! Sessions with a trusted pair. Their output is that of the plain program in `tests/oracle`.
 use super::lines::{are_cut, ended_on, program_ended};
 use super::session::{CONF, site_of, words_of};
-use aide_db::Desk;
-use aide_session::{Memory, MemorySite};
+use aide_session::{Memory, MemorySite, SiteWithDesk};
 use std::alloc::Global;
 use std::test::Fail;
 
@@ -84,33 +83,26 @@ fn trusted_site<'a>(alloc: Global, old: &'a [u8], new: &'a [u8]) -> Result<Memor
 
 #[test]
 fn writes_the_lines_with_a_trusted_pair(rt: HostRuntime) -> Result<(), Fail> {
-    let mut site = site_of(rt.alloc(), CONF, OLD, NEW)?;
-    let mut trusted = trusted_site(rt.alloc(), TRUSTED_OLD, TRUSTED_NEW)?;
+    let site = site_of(rt.alloc(), CONF, OLD, NEW)?;
+    let trusted_pair = trusted_site(rt.alloc(), TRUSTED_OLD, TRUSTED_NEW)?;
     let words = words_of(rt.alloc(), LINE)?;
-    let mut desk = Desk::new(rt.alloc());
-    let mut trusted_desk = Desk::new(rt.alloc());
-    let ended = ended_on(
-        rt.alloc(),
-        &words,
-        &mut desk,
-        &mut site,
-        &mut trusted_desk,
-        &mut trusted,
-    );
+    let mut compared = SiteWithDesk::new(rt.alloc(), site);
+    let mut trusted = SiteWithDesk::new(rt.alloc(), trusted_pair);
+    let ended = ended_on(rt.alloc(), &words, &mut compared, &mut trusted);
     assert!(rt; ended.status == 4, "status {}", ended.status);
     assert!(rt; ended.output.bytes() == LINES, "output");
     assert!(rt; ended.errors.bytes().is_empty(), "error lines");
     // The two entries of a path are on the desk of their pair at once.
-    assert!(rt; desk.peak() >= 13 + 13 && trusted_desk.peak() >= 11 + 11);
+    assert!(rt; compared.desk.peak() >= 13 + 13 && trusted.desk.peak() >= 11 + 11);
     Ok(())
 }
 
 #[test]
 fn runs_the_whole_program_with_a_trusted_pair(rt: HostRuntime) -> Result<(), Fail> {
-    let mut site = site_of(rt.alloc(), CONF, OLD, NEW)?;
-    let mut trusted = trusted_site(rt.alloc(), TRUSTED_OLD, TRUSTED_NEW)?;
+    let site = site_of(rt.alloc(), CONF, OLD, NEW)?;
+    let trusted = trusted_site(rt.alloc(), TRUSTED_OLD, TRUSTED_NEW)?;
     let words = words_of(rt.alloc(), LINE)?;
-    let ended = program_ended(rt.alloc(), &words, &mut site, &mut trusted);
+    let ended = program_ended(rt.alloc(), &words, site, trusted);
     assert!(rt; ended.status == 4, "status {}", ended.status);
     assert!(rt; ended.output.bytes() == LINES, "output");
     assert!(rt; ended.errors.bytes().is_empty(), "error lines");
@@ -119,10 +111,10 @@ fn runs_the_whole_program_with_a_trusted_pair(rt: HostRuntime) -> Result<(), Fai
 
 #[test]
 fn names_the_fault_of_a_trusted_database(rt: HostRuntime) -> Result<(), Fail> {
-    let mut site = site_of(rt.alloc(), CONF, OLD, NEW)?;
-    let mut trusted = trusted_site(rt.alloc(), TRUSTED_OLD, CUT)?;
+    let site = site_of(rt.alloc(), CONF, OLD, NEW)?;
+    let trusted = trusted_site(rt.alloc(), TRUSTED_OLD, CUT)?;
     let words = words_of(rt.alloc(), LINE)?;
-    let ended = program_ended(rt.alloc(), &words, &mut site, &mut trusted);
+    let ended = program_ended(rt.alloc(), &words, site, trusted);
     assert!(rt; ended.status == 24, "status {}", ended.status);
     assert!(rt; are_cut(ended.output.bytes()), "output");
     assert!(rt; ended.errors.bytes() == CUT_LINE, "error lines");
@@ -131,10 +123,10 @@ fn names_the_fault_of_a_trusted_database(rt: HostRuntime) -> Result<(), Fail> {
 
 #[test]
 fn leaves_out_what_a_list_names(rt: HostRuntime) -> Result<(), Fail> {
-    let mut site = site_of(rt.alloc(), CONF, OLD, NEW)?;
-    let mut trusted = trusted_site(rt.alloc(), TRUSTED_NEW, TRUSTED_NEW)?;
+    let site = site_of(rt.alloc(), CONF, OLD, NEW)?;
+    let trusted = trusted_site(rt.alloc(), TRUSTED_NEW, TRUSTED_NEW)?;
     let words = words_of(rt.alloc(), LISTED_LINE)?;
-    let ended = program_ended(rt.alloc(), &words, &mut site, &mut trusted);
+    let ended = program_ended(rt.alloc(), &words, site, trusted);
     assert!(rt; ended.status == 4, "status {}", ended.status);
     assert!(rt; ended.output.bytes() == LISTED_LINES, "output");
     assert!(rt; ended.errors.bytes().is_empty(), "error lines");
@@ -143,10 +135,10 @@ fn leaves_out_what_a_list_names(rt: HostRuntime) -> Result<(), Fail> {
 
 #[test]
 fn names_the_fault_of_a_list_before_all_others(rt: HostRuntime) -> Result<(), Fail> {
-    let mut site = MemorySite::new(rt.alloc());
-    let mut trusted = MemorySite::new(rt.alloc());
+    let site = MemorySite::new(rt.alloc());
+    let trusted = MemorySite::new(rt.alloc());
     let words = words_of(rt.alloc(), BAD_LIST_LINE)?;
-    let ended = program_ended(rt.alloc(), &words, &mut site, &mut trusted);
+    let ended = program_ended(rt.alloc(), &words, site, trusted);
     assert!(rt; ended.status == 17, "status {}", ended.status);
     assert!(rt; ended.output.bytes().is_empty(), "output");
     assert!(rt; ended.errors.bytes() == BAD_LIST, "error lines");

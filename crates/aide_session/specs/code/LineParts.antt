@@ -1,9 +1,9 @@
 -- What contracts say of a part of a session of lines.
 use Rattle.std.specs.Prelude.{◌≡◌, ℕ, Bool, true, false, List, Option, Some}
-use Rattle.aide_db.specs.DeskView.{DeskView}
 use Rattle.aide_db.specs.declared.side.Side.{Side}
 use Rattle.aide_db.specs.declared.side.Side.TheVariants.{Old, New}
 use Rattle.aide_db.specs.declared.sources.Sources.{Ghosts as AnySources}
+use Rattle.aide_line_run.specs.declared.run.TrustedPair.{TrustedPair}
 use Rattle.aide_merge.specs.Asked.{Asked}
 use Rattle.aide_merge.specs.RightAnswer.{TellsSide}
 use Rattle.aide_session.specs.Answer.{IsAnswerBy, Named}
@@ -15,6 +15,7 @@ use Rattle.aide_session.specs.Says.{settings_told}
 use Rattle.aide_session.specs.Trusted.{trusted_at}
 use Rattle.aide_session.specs.code.Parts.{ClosesFor, EndsWith, part_between}
 use Rattle.aide_session.specs.declared.devices.Devices.{Devices}
+use Rattle.aide_session.specs.declared.site.SiteWithDesk.{SiteWithDesk}
 use Rattle.aide_text.specs.declared.sink.Sink.{Ghosts as AnySink}
 use Rattle.aide_words.specs.LineJob.{LineJobText}
 
@@ -28,24 +29,32 @@ named_by config asked = record {
 
 -- what the site of the trusted pair shows of a part, by the other devices
 abbrev pub trusted_between : {C S R W E : Type 0} → AnySources S R → AnySink W → AnySink E
-    → Devices C S W E R → Devices C S W E R → S → S → SessionView
-trusted_between s w e m n a b = view_between s w e a b m.out.now n.out.now m.err.now n.err.now
+    → Devices C S W E R → Devices C S W E R → SiteWithDesk S → SiteWithDesk S → SessionView
+trusted_between s w e m n a b =
+    view_between s w e a.site b.site m.out.now n.out.now m.err.now n.err.now
 
 -- the peaks of both desks
 abbrev pub peaks_between : {C S R W E : Type 0} → Devices C S W E R → Devices C S W E R
-    → DeskView → DeskView → DeskPeaks
-peaks_between m n u v = record {
+    → SiteWithDesk S → SiteWithDesk S → DeskPeaks
+peaks_between m n a b = record {
   before = m.desk.now.peak;
   after = n.desk.now.peak;
-  trusted_before = u.peak;
-  trusted_after = v.peak;
+  trusted_before = a.desk.peak;
+  trusted_after = b.desk.peak;
 }
 
 -- all that is seen of a part
 abbrev pub line_view_between : {C S R W E : Type 0} → AnySources S R → AnySink W → AnySink E
-    → Devices C S W E R → Devices C S W E R → DeskView → DeskView → S → S → LineView
-line_view_between s w e m n u v a b = line_view (part_between s w e m n)
-    (trusted_between s w e m n a b) (peaks_between m n u v)
+    → Devices C S W E R → Devices C S W E R → SiteWithDesk S → SiteWithDesk S → LineView
+line_view_between s w e m n a b = line_view (part_between s w e m n)
+    (trusted_between s w e m n a b) (peaks_between m n a b)
+
+-- the site and the desk that a trusted pair lends
+abbrev pub lent_pair : {S R A : Type 0} → TrustedPair S A R → SiteWithDesk S
+lent_pair pair = record {
+  site = pair.sources.now;
+  desk = pair.desk.now;
+}
 
 -- what is known of the files at the paths of a pair: of the trusted one or of the compared one
 abbrev pub files_of : (is_trusted : Bool) → Files → Files

@@ -13,7 +13,7 @@ returns-clause-answer g c job list named settings old new trusted_old trusted_ne
     (c.lines_session_on.ensures.session.compares job asks.job_is).exact named
     (line_answer (lines_at_fault list (asked_by settings.options named) (asked_by settings.options (trusted_of job)) (Some old) (Some new)
     (Some trusted_old) (Some trusted_new)) named (trusted_of job) right)
-    (line_answer_by_what_is_asked (g.S.Sources.file_at c.args.site.now) (trusted_at (g.S.Sources.file_at c.args.trusted.now))
+    (line_answer_by_what_is_asked (g.S.Sources.file_at c.args.compared.now.site) (trusted_at (g.S.Sources.file_at c.args.trusted.now.site))
     c.args.words.now job list named settings old new trusted_old trusted_new right asks
     (right_is_the_answer limits list (asked_by settings.options named) (asked_by settings.options (trusted_of job)) old new trusted_old
     trusted_new right (omega arith) is))
@@ -26,7 +26,7 @@ returns-clause-bound g c job list named settings old new trusted_old trusted_new
     (c.lines_session_on.ensures.session.compares job asks.job_is).bound named
     (line_answer (lines_at_fault list (asked_by settings.options named) (asked_by settings.options (trusted_of job)) (Some old) (Some new)
     (Some trusted_old) (Some trusted_new)) named (trusted_of job) right.0)
-    (line_answer_by_what_is_asked (g.S.Sources.file_at c.args.site.now) (trusted_at (g.S.Sources.file_at c.args.trusted.now))
+    (line_answer_by_what_is_asked (g.S.Sources.file_at c.args.compared.now.site) (trusted_at (g.S.Sources.file_at c.args.trusted.now.site))
     c.args.words.now job list named settings old new trusted_old trusted_new right.0 asks right.1)
     old new asks.old_there asks.new_there
 
@@ -37,6 +37,6 @@ returns-clause-trusted_bound g c job list named settings old new trusted_old tru
     (c.lines_session_on.ensures.session.compares job asks.job_is).trusted_bound named
     (line_answer (lines_at_fault list (asked_by settings.options named) (asked_by settings.options (trusted_of job)) (Some old) (Some new)
     (Some trusted_old) (Some trusted_new)) named (trusted_of job) right.0)
-    (line_answer_by_what_is_asked (g.S.Sources.file_at c.args.site.now) (trusted_at (g.S.Sources.file_at c.args.trusted.now))
+    (line_answer_by_what_is_asked (g.S.Sources.file_at c.args.compared.now.site) (trusted_at (g.S.Sources.file_at c.args.trusted.now.site))
     c.args.words.now job list named settings old new trusted_old trusted_new right.0 asks right.1)
     trusted_old trusted_new asks.trusted_old_there asks.trusted_new_there

@@ -12,7 +12,7 @@ ghost use Rattle.aide_words.specs.Job.{job_of};
 
 use aide_db::Desk;
 use aide_report::Sink;
-use aide_session::{Site, Words, lines_session_on, session_on};
+use aide_session::{Site, SiteWithDesk, Words, lines_session_on, session_on};
 use std::alloc::Global;
 
 /// Runs a session that writes the report.
@@ -64,20 +64,19 @@ pub(super) fn report_on<S: Site, W: Sink, E: Sink>(
 pub(super) fn lines_on<S: Site, W: Sink, E: Sink>(
     alloc: Global,
     words: &Words,
-    desk: &mut Desk<Global>,
-    site: &mut S,
-    trusted_desk: &mut Desk<Global>,
-    trusted: &mut S,
+    compared: &mut SiteWithDesk<S>,
+    trusted: &mut SiteWithDesk<S>,
     out: &mut W,
     err: &mut E,
 ) -> u8
     ensures unopened { line_job_of words.now ≡ None
-        → S.openings site.new ≡ S.openings site.old }
-    ensures still { line_job_of words.now ≡ None → desk.new.peak ≡ desk.old.peak }
+        → S.openings compared.new.site ≡ S.openings compared.old.site }
+    ensures still { line_job_of words.now ≡ None
+        → compared.new.desk.peak ≡ compared.old.desk.peak }
     ensures trusted_unopened { line_job_of words.now ≡ None
-        → S.openings trusted.new ≡ S.openings trusted.old }
+        → S.openings trusted.new.site ≡ S.openings trusted.old.site }
     ensures trusted_still { line_job_of words.now ≡ None
-        → trusted_desk.new.peak ≡ trusted_desk.old.peak }
+        → trusted.new.desk.peak ≡ trusted.old.desk.peak }
 {
-    lines_session_on(alloc, words, desk, site, trusted_desk, trusted, out, err)
+    lines_session_on(alloc, words, compared, trusted, out, err)
 }

@@ -23,8 +23,8 @@ returns-clause-closes g c = λ config same.
     let trusted_wish = asked tasks.trusted.now in
     inr (closes_seen (list_read tasks.list) (named_by config wish) (named_by config trusted_wish) tasks.compared.now.options _ _ _ _ _ _
     first.keeps.failures
-    (seen_pointed g.S.Sources g.W.Sink g.E.Sink ran.devices.site.now ran.trusted devices.out.now ran.devices.out.now devices.err.now
-    ran.devices.err.now devices.site.now c.prepare.new.site c.args.trusted.now c.prepare-2.new.site _ _ _ _ _ _ first.keeps
+    (seen_pointed g.S.Sources g.W.Sink g.E.Sink ran.devices.site.now ran.trusted.site devices.out.now ran.devices.out.now devices.err.now
+    ran.devices.err.now devices.site.now c.prepare.new.site c.args.trusted.now.site c.prepare-2.new.site _ _ _ _ _ _ first.keeps
     second.keeps first.peak second.peak)
     (c.run_pairs.ensures.closes config
     (pointed_later _ _ wish _ _ first.keeps.files c.in_default.ensures.pointed)

@@ -17,8 +17,7 @@ returns-clause-session g c =
     let after = c.pass_on.ensures.never_falls in
     let devices = c.args.devices.now in
     let ran = c.run_line_words-status in
-    let view = line_view_between g.S.Sources g.W.Sink g.E.Sink devices ran.new.devices c.args.trusted_desk.now ran.new.trusted_desk
-    c.args.trusted.now ran.new.trusted in
+    let view = line_view_between g.S.Sources g.W.Sink g.E.Sink devices ran.new.devices c.args.trusted.now ran.new.trusted in
     let bytes = g.E.Sink.delivered c.pass_on.new.err in
     let count = g.E.Sink.failures c.pass_on.new.err in
     let last = passed_view view bytes count in

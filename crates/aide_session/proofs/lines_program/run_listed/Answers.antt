@@ -9,8 +9,8 @@ returns-in-Ok-clause-closes g c = λ listed.
     let devices = c.args.devices.now in
     let ran = c.run_line_text.new in
     ends_seen (text_of_line_job c.args.job.now) _ _ _ _ _ c.read_config.ensures.opens.never_falls
-    (seen_read g.S.Sources g.W.Sink g.E.Sink ran.devices.site.now ran.trusted devices.out.now ran.devices.out.now devices.err.now
-    ran.devices.err.now devices.site.now c.read_config.new.site c.args.trusted.now _ _ _ _ c.read_config.ensures.opens)
+    (seen_read g.S.Sources g.W.Sink g.E.Sink ran.devices.site.now ran.trusted.site devices.out.now ran.devices.out.now devices.err.now
+    ran.devices.err.now devices.site.now c.read_config.new.site c.args.trusted.now.site _ _ _ _ c.read_config.ensures.opens)
     (c.run_line_text.ensures.closes listed
     (has_text _ _ (text_of_line_job c.args.job.now) _ _ _ c.as_str-path.ensures c.as_slice.ensures.value c.read_config.ensures.opens.files
     c.in-Ok.ensures.ok c.in-Ok.ensures.small))
