@@ -111,11 +111,11 @@ pub rose_later : (m k n : ℕ) → m ≤ k → Rose k n → Rose m n
 rose_later m k n h rose = λ below. let later = rose below in omega (arith, h, later)
 
 -- no Bool is both
-true_is_not_false : true ≡ false → ⊥
+pub true_is_not_false : true ≡ false → ⊥
 true_is_not_false e = cc
 
 -- no Bool is true
-never_true : (b : Bool) → (b ≡ true → ⊥) → b ≡ false
+pub never_true : (b : Bool) → (b ≡ true → ⊥) → b ≡ false
 never_true true f = absurd (f refl)
 never_true false f = refl
 

@@ -13,6 +13,7 @@ mod Pages
 mod HeldLemmas
 mod JobReadings
 mod LineParts
+mod LineComparisons
 mod LineEndings
 pub mod LineExistence
 pub mod LineLaws

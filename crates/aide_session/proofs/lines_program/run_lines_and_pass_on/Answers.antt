@@ -4,10 +4,10 @@ use Rattle.aide_session.specs.LineSession.{check_job_of}
 use Rattle.aide_session.specs.Says.{settings_told}
 use Rattle.aide_session.specs.code.LineParts.{line_view_between}
 use Rattle.aide_session.proofs.LineEndings.{line_bound, lines_end, lines_passed, passed_view, peaks_of_lines, put_rises}
-use Rattle.aide_session.proofs.LineEndings.{true_is_not_false, trusted_line_bound, lines_unfailed}
+use Rattle.aide_session.proofs.LineEndings.{trusted_line_bound, lines_unfailed}
 use Rattle.aide_session.proofs.LineExistence.{lines_answered}
 use Rattle.aide_session.proofs.Closings.{closes_passed}
-use Rattle.aide_session.proofs.Endings.{ends_exactly, ends_passed, ends_reliably, no_failure_never_rose}
+use Rattle.aide_session.proofs.Endings.{ends_exactly, ends_passed, ends_reliably, no_failure_never_rose, true_is_not_false}
 use Rattle.aide_session.proofs.Existence.{answered}
 use Rattle.aide_session.proofs.lines_program.run_lines_and_pass_on.Goals as goal
 
