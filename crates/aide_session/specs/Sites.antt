@@ -1,7 +1,9 @@
 -- What contracts see of sites: files in memory, and those of the machine.
-use Rattle.std.specs.Prelude.{ℕ, List, [], ◌∷◌, Option, Some, None, is_none, Bool}
+use Rattle.std.specs.Prelude.{◌≡◌, ℕ, List, [], ◌∷◌, Option, Some, None, IsSome, is_none, is_some}
+use Rattle.std.specs.Prelude.{Bool, true}
 use Rattle.std.specs.Prelude.{if◌then◌else◌}
 use Rattle.std.specs.Str.{bytes_eq}
+use Rattle.aide_db.specs.Count.{one_more}
 use Rattle.aide_db.specs.Side.{by_side}
 use Rattle.aide_db.specs.declared.side.Side.{Side}
 use Rattle.aide_session.specs.Files.{Files}
@@ -49,6 +51,13 @@ unfoldable pub bytes_at : List (List ℕ × List ℕ) → List ℕ → Option (L
 bytes_at [] path = None
 bytes_at (file ∷ files) path = either (bytes_at files path) (of_file file path)
 
+-- The file at a path was opened, or the opening was refused.
+pub record HasLooked (path : List ℕ) (is_given : Bool) (a b : Shelf) : Type 0 where
+  -- the opening was counted
+  pub counted : b.lookups ≡ one_more a.lookups
+  -- it succeeded exactly if there is a file
+  pub there : is_given ≡ is_some (bytes_at a.files path)
+
 -- what is at a path, which a site in memory always shows
 abbrev pub files_at : Shelf → Files
 files_at s path = Some (bytes_at s.files path)
@@ -86,6 +95,11 @@ side_missing s side = is_none (side_bytes s side)
 -- whether the last opening of a side succeeded
 abbrev pub side_given : Shelf → Side → Bool
 side_given s side = by_side s.old_given s.new_given side
+
+-- The opening of a side succeeded: it was pointed at a file that is there or at the empty database.
+pub record IsOpened (side : Side) (a b : Shelf) : Type 0 where
+  pub there : IsSome (side_bytes a side)
+  pub given : side_given b side ≡ true
 
 -- how often a side was opened
 abbrev pub side_openings : Shelf → Side → ℕ

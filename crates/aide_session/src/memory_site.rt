@@ -1,10 +1,10 @@
 //! A site in memory.
 ghost use Rattle.std.specs.Prelude.{◌≡◌, ◌≤◌, ◌≢◌, ◌++◌, ◌∷◌, [], ℕ, true, false, List, Option};
-ghost use Rattle.std.specs.Prelude.{Some, None, IfOk, IfSome, IsSome, OnOk, OnErr};
+ghost use Rattle.std.specs.Prelude.{Some, None, IfOk, IfSome, OnOk, OnErr, is_ok};
 ghost use Rattle.std.specs.Option.{option_map};
-ghost use Rattle.aide_session.specs.Sites.{aim_bytes, bytes_at, either, files_at, of_file};
-ghost use Rattle.aide_session.specs.Sites.{side_bytes, side_given, side_missing, side_openings};
-ghost use Rattle.aide_session.specs.Sites.{side_path};
+ghost use Rattle.aide_session.specs.Sites.{HasLooked, IsOpened, aim_bytes, bytes_at, either};
+ghost use Rattle.aide_session.specs.Sites.{files_at, of_file, side_bytes, side_given};
+ghost use Rattle.aide_session.specs.Sites.{side_missing, side_openings, side_path};
 ghost use Rattle.aide_session.specs.Files.{GivesFile};
 ghost use Rattle.aide_session.specs.declared.pointed.Aim.TheVariants.{Nowhere};
 ghost use Rattle.aide_session.specs.Pointing.{KeepsSite};
@@ -160,8 +160,7 @@ impl<'a> Sources for MemorySite<'a> {
     // The opening is refused exactly if the side is not pointed at a file that is there or at the empty database.
     fn open(&mut self, side: Side) -> Result<&'a [u8], OpenFault>
         ensures missing { OnErr result (side_bytes self.old side ≡ None) }
-        ensures there { OnOk result (IsSome (side_bytes self.old side)) }
-        ensures given { OnOk result (side_given self.new side ≡ true) }
+        ensures there { OnOk result (IsOpened side self.old self.new) }
         ensures fresh { IfOk result (λ reel. ⟦<&'a [u8] as Reel>⟧.failures reel ≡ 0) }
         ensures gives { IfOk result (λ reel. IfSome (side_bytes self.old side)
             (λ bytes. ⟦<&'a [u8] as Reel>⟧.to_come reel ≡ Some bytes)) }
@@ -203,10 +202,8 @@ impl<'a> Site for MemorySite<'a> {
 
     // The opening is refused exactly if there is no file at the path.
     fn config(&mut self, path: &str) -> Result<&'a [u8], OpenFault>
-        ensures looks { self.new.lookups ≡ one_more self.old.lookups }
+        ensures looks { HasLooked path.now (is_ok result) self.old self.new }
         ensures lookups { self.new.lookups ≤ one_more self.old.lookups }
-        ensures missing { OnErr result (bytes_at self.old.files path.now ≡ None) }
-        ensures there { OnOk result (IsSome (bytes_at self.old.files path.now)) }
         ensures gone { OnErr result (files_at self.old path.now ≡ Some None) }
         ensures fresh { IfOk result (λ reel. ⟦<&'a [u8] as Reel>⟧.failures reel ≡ 0) }
         ensures gives { IfOk result (λ reel. (file : Option (List ℕ))

@@ -1,17 +1,23 @@
-use Rattle.std.proofs.Common.{List, Option, Some, ap, refl, subst, sym, IsSome, ℕ}
+use Rattle.std.proofs.Common.{List, Option, Some, ap, sym, ℕ, rules}
+use Rattle.std.specs.Prelude.{is_some}
 use Rattle.aide_session.proofs.SiteLemmas.{found_in, gives_found}
 use Rattle.aide_session.proofs.memory_site.MemorySiteSite.config.Goals as goal
 
-pub returns-in-Some-clause-there : goal.returns-in-Some-clause-there
-returns-in-Some-clause-there c =
-    subst IsSome (sym (found_in _ _ _ _ _ c.as_slice.ensures.value c.self.view_is c.in-Some.ensures)) refl
+pub returns-in-Some-clause-looks : goal.returns-in-Some-clause-looks
+returns-in-Some-clause-looks c = record {
+  counted = search rules;
+  there = sym (ap is_some (found_in _ _ _ _ _ c.as_slice.ensures.value c.self.view_is c.in-Some.ensures));
+}
 
 pub returns-in-Some-clause-gives : goal.returns-in-Some-clause-gives
 returns-in-Some-clause-gives c = λ file known.
     gives_found _ _ file (found_in _ _ _ _ _ c.as_slice.ensures.value c.self.view_is c.in-Some.ensures) known
 
-pub returns-in-None-clause-missing : goal.returns-in-None-clause-missing
-returns-in-None-clause-missing c = found_in _ _ _ _ _ c.as_slice.ensures.value c.self.view_is c.in-None.ensures
+pub returns-in-None-clause-looks : goal.returns-in-None-clause-looks
+returns-in-None-clause-looks c = record {
+  counted = search rules;
+  there = sym (ap is_some (found_in _ _ _ _ _ c.as_slice.ensures.value c.self.view_is c.in-None.ensures));
+}
 
 pub returns-in-None-clause-gone : goal.returns-in-None-clause-gone
 returns-in-None-clause-gone c =

@@ -4,9 +4,11 @@ use Rattle.aide_session.proofs.SiteLemmas.{found_on_side}
 use Rattle.aide_session.proofs.memory_site.MemorySiteSources.open.Goals as goal
 
 pub returns-in-Some-clause-there : goal.returns-in-Some-clause-there
-returns-in-Some-clause-there c =
-    subst IsSome (sym (found_on_side _ _ _ _ _ _ _ _ c.as_slice.ensures.value refl refl c.self.view_is c.aim.ensures c.in-Some.ensures))
-    refl
+returns-in-Some-clause-there c = record {
+  there = subst IsSome
+      (sym (found_on_side _ _ _ _ _ _ _ _ c.as_slice.ensures.value refl refl c.self.view_is c.aim.ensures c.in-Some.ensures)) refl;
+  given = search rules;
+}
 
 pub returns-in-Some-clause-opened : goal.returns-in-Some-clause-opened
 returns-in-Some-clause-opened c = record {
