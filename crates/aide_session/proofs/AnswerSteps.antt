@@ -1,16 +1,17 @@
 -- From one step of the answer to the next.
-use Rattle.std.proofs.Common.{◌≡◌, ℕ, List, Option, Some, None, true, false, Bool, Ok, Err, rules}
+use Rattle.std.proofs.Common.{◌≡◌, ℕ, List, Option, Some, None, true, false, Bool, Ok, Err, sym}
 use Rattle.std.specs.Prelude.{Result}
 use Rattle.std.proofs.Math.Path.{subst}
+use Rattle.aide_conf.proofs.Laws.{no_configuration_has_two_answers}
 use Rattle.aide_conf.specs.Settings.{Configured}
 use Rattle.aide_conf.specs.declared.fault.ConfFault.{ConfFault}
 use Rattle.aide_session.specs.Answer.{Answer, Named, refused, checked_by, IsFileAnswerBy, IsSizedAnswerBy, IsTextAnswerBy}
-use Rattle.aide_session.specs.Answer.{Compares, IsAnswerBy, IsJobAnswerBy, IsReadAnswerBy}
+use Rattle.aide_session.specs.Answer.{Compares, IsAnswerBy, IsJobAnswerBy, IsReadAnswerBy, need_of}
 use Rattle.aide_session.specs.Files.{Files, IsLarge, is_too_large}
 use Rattle.aide_words.specs.Job.{JobText}
 use Rattle.aide_session.specs.Lines.{too_large_line, unread_line, conf_line}
 use Rattle.aide_session.specs.Says.{Says, usage_by}
-use Rattle.aide_session.specs.code.Premises.{HasRead, ReadsOnlyAs}
+use Rattle.aide_session.specs.code.JobSettings.{HasRead}
 
 pub usage_is : (says : Says) (files : Files) (wanted : Option JobText) (named : Named) (a : Answer) → wanted ≡ None
     → IsAnswerBy says files wanted named a → a ≡ refused (usage_by says) 15
@@ -45,49 +46,35 @@ text_is : (says : Says) (files : Files) (job : JobText) (file : Option (List ℕ
 text_is says files job file text named a found is =
     small_is says files job text named a found.1 (subst (λ (o : Option (List ℕ)). IsFileAnswerBy says files job o named a) found.0 is)
 
--- What is known of a file that was read: it has this text, which is not too large.
-abbrev pub IsRead : (files : Files) (path text : List ℕ) → Type 0
-IsRead files path text = (file : Option (List ℕ)) → files path ≡ Some file
-    → (file ≡ Some text) × (is_too_large text ≡ false)
-
--- the answer to a job whose configuration was read is that of its text
-pub read_is : (says : Says) (files later : Files) (job : JobText) (path text copy : List ℕ) (named : Named) (a : Answer)
-    → path ≡ job.config → copy ≡ text → later ≡ files → IsRead files path text
-    → IsJobAnswerBy says files job named a → IsTextAnswerBy says later job copy named a
-read_is says files later job path text copy named a is_path is_text same found is = search (rules, text_is)
-
--- what is known where the configuration of a job was read
-pub has_read : (files later : Files) (wanted : Option JobText) (job : JobText) (path text copy : List ℕ)
-    → path ≡ job.config → copy ≡ text → later ≡ files → IsRead files path text → is_too_large text ≡ false
-    → wanted ≡ Some job → HasRead later wanted job copy
-has_read files later wanted job path text copy is_path is_text same found small is = search (rules, job_is, text_is)
-
--- a job that reads only as this has the answer of this reading
-read_answer : (says : Says) (files : Files) (job : JobText) (text : List ℕ) (read : Result Configured ConfFault) (named : Named)
-    (a : Answer)
-    → ReadsOnlyAs job text read → IsTextAnswerBy says files job text named a → IsReadAnswerBy says files job.compare read named a
-read_answer says files job text read named a reads is =
-    subst (λ (x : Result Configured ConfFault). IsReadAnswerBy says files job.compare x named a) (reads.only is.read is.reads) is.then_is
+-- a job whose configuration was read has the answer of its reading
+read_answer : (says : Says) (files : Files) (job : JobText) (read : Result Configured ConfFault) (named : Named) (a : Answer)
+    → HasRead files job read → IsJobAnswerBy says files job named a → IsReadAnswerBy says files job.compare read named a
+read_answer says files job read named a has is =
+    let of_text = text_is says files job is.file has.text named a (has.text_is is.file is.known, has.small) is.then_is in
+    subst (λ (x : Result Configured ConfFault). IsReadAnswerBy says files job.compare x named a)
+    (no_configuration_has_two_answers (need_of job.compare) job.before has.text job.after read of_text.read has.reads of_text.reads)
+    of_text.then_is
 
 bad_answer : (says : Says) (files : Files) (compare : Bool) (fault : ConfFault) (named : Named) (a : Answer)
     → IsReadAnswerBy says files compare (Err fault) named a → a ≡ refused (conf_line fault) 17
 bad_answer says files true fault named a is = is
 bad_answer says files false fault named a is = is
 
-pub fault_is : (says : Says) (files : Files) (job : JobText) (text : List ℕ) (fault : ConfFault) (named : Named) (a : Answer)
-    → ReadsOnlyAs job text (Err fault) → IsTextAnswerBy says files job text named a
+pub fault_is : (says : Says) (files : Files) (job : JobText) (fault : ConfFault) (named : Named) (a : Answer)
+    → HasRead files job (Err fault) → IsJobAnswerBy says files job named a
     → a ≡ refused (conf_line fault) 17
-fault_is says files job text fault named a reads is =
-    bad_answer says files job.compare fault named a (read_answer says files job text (Err fault) named a reads is)
+fault_is says files job fault named a has is =
+    bad_answer says files job.compare fault named a (read_answer says files job (Err fault) named a has is)
 
-pub compares_is : (says : Says) (files : Files) (job : JobText) (text : List ℕ) (s : Configured) (named : Named) (a : Answer)
-    → job.compare ≡ true → ReadsOnlyAs job text (Ok s) → IsTextAnswerBy says files job text named a
-    → Compares files s named a
-compares_is says files job text s named a compare reads is =
-    subst (λ (b : Bool). IsReadAnswerBy says files b (Ok s) named a) compare (read_answer says files job text (Ok s) named a reads is)
+pub compares_is : (says : Says) (files later : Files) (job : JobText) (s : Configured) (named : Named) (a : Answer)
+    → later ≡ files → job.compare ≡ true → HasRead files job (Ok s) → IsJobAnswerBy says files job named a
+    → Compares later s named a
+compares_is says files later job s named a same compare has is =
+    subst (λ (f : Files). Compares f s named a) (sym same)
+    (subst (λ (b : Bool). IsReadAnswerBy says files b (Ok s) named a) compare (read_answer says files job (Ok s) named a has is))
 
-pub checked_is : (says : Says) (files : Files) (job : JobText) (text : List ℕ) (s : Configured) (named : Named) (a : Answer)
-    → job.compare ≡ false → ReadsOnlyAs job text (Ok s) → IsTextAnswerBy says files job text named a
+pub checked_is : (says : Says) (files : Files) (job : JobText) (s : Configured) (named : Named) (a : Answer)
+    → job.compare ≡ false → HasRead files job (Ok s) → IsJobAnswerBy says files job named a
     → a ≡ checked_by says s
-checked_is says files job text s named a compare reads is =
-    subst (λ (b : Bool). IsReadAnswerBy says files b (Ok s) named a) compare (read_answer says files job text (Ok s) named a reads is)
+checked_is says files job s named a compare has is =
+    subst (λ (b : Bool). IsReadAnswerBy says files b (Ok s) named a) compare (read_answer says files job (Ok s) named a has is)

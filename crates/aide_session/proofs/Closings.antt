@@ -26,7 +26,7 @@ use Rattle.aide_session.specs.Files.{Files, IsLarge}
 use Rattle.aide_session.specs.Says.{Says, usage_by}
 use Rattle.aide_words.specs.Job.{JobText}
 use Rattle.aide_session.specs.Lines.{memory_line, unread_line, too_large_line, conf_line, write_line}
-use Rattle.aide_session.specs.code.Premises.{HasRead, ReadsOnlyAs}
+use Rattle.aide_session.specs.code.JobSettings.{HasRead}
 use Rattle.aide_session.specs.Put.{Put}
 use Rattle.aide_session.proofs.Endings.{rose_later, sinks}
 use Rattle.aide_session.proofs.PutLemmas.{appends_none, put_none, put_passed}
@@ -97,19 +97,19 @@ closes_large says files wanted job d e f m n course site out is large put unopen
     (asks wanted job is, large) (appends_none d, unopened, unflushed) tt unopened put
 
 -- the configuration of a job was read, and reads as this
-pub asks_and_reads : (files : Files) (wanted : Option JobText) (job : JobText) (text : List ℕ) (compare : Bool)
+pub asks_and_reads : (files later : Files) (wanted : Option JobText) (job : JobText) (compare : Bool)
     (read : Result Configured ConfFault)
-    → HasRead files wanted job text → job.compare ≡ compare → ReadsOnlyAs job text read
-    → AsksAndReads files wanted job.config compare read
-asks_and_reads files wanted job text compare read has compare_is only = record {
+    → later ≡ files → wanted ≡ Some job → job.compare ≡ compare → HasRead files job read
+    → AsksAndReads later wanted job.config compare read
+asks_and_reads files later wanted job compare read same is compare_is has = record {
   job = job;
-  job_is = has.job_is;
+  job_is = is;
   config_is = refl;
   compare_is = compare_is;
-  text = text;
-  text_is = has.text_is;
+  text = has.text;
+  text_is = λ file known. has.text_is file (subst (λ (f : Files). f job.config ≡ Some file) same known);
   small = has.small;
-  reads = subst (λ (b : Bool). ReadsAs (need_of b) job.before text job.after read) compare_is only.reads;
+  reads = subst (λ (b : Bool). ReadsAs (need_of b) job.before has.text job.after read) compare_is has.reads;
 }
 
 pub closes_bad_config : (says : Says) (files : Files) (wanted : Option JobText) (config : List ℕ) (compare : Bool) (fault : ConfFault)

@@ -11,7 +11,7 @@ mod Existence
 mod Uniqueness
 mod Pages
 mod HeldLemmas
-mod JobReadings
+mod JobSettings
 mod LineParts
 mod LineComparisons
 mod LineEndings

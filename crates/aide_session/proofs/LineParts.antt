@@ -1,16 +1,10 @@
 -- The parts of a session of lines, over what is seen of both sites.
-use Rattle.std.proofs.Common.{◌≡◌, ◌∙◌, ℕ, ◌≤◌, List, Option, Some, None, refl, sym, ap, Bool, true, false, Ok, Err, inl, inr, ◌⊎◌}
+use Rattle.std.proofs.Common.{◌≡◌, ◌∙◌, ℕ, ◌≤◌, List, Option, Some, None, refl, sym, ap, Bool, true, Ok, Err, inl, inr}
 use Rattle.std.proofs.Common.{arith, rules}
 use Rattle.std.specs.Prelude.{Result, IfErr, IfOk, ⊤}
 use Rattle.std.proofs.Math.Path.{subst}
 use Rattle.std.proofs.lemmas.Result.{IfErr-weaker, on_ok_weaker}
-use Rattle.aide_conf.specs.Cutting.{places}
-use Rattle.aide_conf.specs.ReadResult.{IsRead, IsRefused, IsStarved, ReadsAs}
-use Rattle.aide_conf.specs.Settings.{Configured}
-use Rattle.aide_conf.specs.declared.fault.ConfFault.{ConfFault}
-use Rattle.aide_conf.specs.declared.fault.ConfFaultKind.TheVariants.{Memory}
 use Rattle.aide_conf.specs.declared.options.Options.{Options}
-use Rattle.aide_conf.specs.declared.task.Need.TheVariants.{Compare}
 use Rattle.aide_db.specs.DeskView.{DeskView}
 use Rattle.aide_db.specs.Side.{by_side}
 use Rattle.aide_db.specs.declared.side.Side.{Side}
@@ -29,13 +23,12 @@ use Rattle.aide_session.specs.LineEnds.{MeansOfPair, StopCause}
 use Rattle.aide_session.specs.LineEnds.{config_refused, config_too_large, config_unread, list_refused, no_memory_left}
 use Rattle.aide_session.specs.LineSession.{line_view}
 use Rattle.aide_session.specs.Closing.{Course, HasText}
-use Rattle.aide_session.specs.Files.{Files, is_too_large}
+use Rattle.aide_session.specs.Files.{Files}
 use Rattle.aide_session.specs.Pointing.{KeepsFiles}
 use Rattle.aide_session.specs.Session.{view_between}
 use Rattle.aide_session.specs.Trusted.{trusted_at}
-use Rattle.aide_session.specs.code.LineParts.{HasTextForLines, IsPointed, named_by}
+use Rattle.aide_session.specs.code.LineParts.{IsPointed, named_by}
 use Rattle.aide_session.specs.code.Config.{OpensOneFile}
-use Rattle.aide_session.proofs.AnswerSteps.{IsRead as IsReadFile}
 use Rattle.aide_session.proofs.Closings.{run_cause}
 use Rattle.aide_session.proofs.Comparisons.{caused_of}
 use Rattle.aide_session.proofs.Endings.{rose_later}
@@ -274,31 +267,6 @@ ends_seen job status before later v now more seen ends =
         closes = closes.closes;
       })
     ]
-
--- what is known where the configuration of a job was read
-pub has_text : (files later : Files) (job : LineJobText) (path text copy : List ℕ)
-    → path ≡ job.config → copy ≡ text → later ≡ files → IsReadFile files path text → is_too_large text ≡ false
-    → HasTextForLines later job copy
-has_text files later job path text copy is_path is_text same found small = search rules
-
--- ---- what the texts of a job read as
-
-reads_for : (job : LineJobText) (before text after : List ℕ) (read : Result Configured ConfFault) → before ≡ job.before → after ≡ job.after
-    → ReadsAs Compare before text after read → ReadsAs Compare job.before text job.after read
-reads_for job before text after read is_before is_after reads = search rules
-
-module _ (job : LineJobText) (before text after : List ℕ) (is_before : before ≡ job.before) (is_after : after ≡ job.after) where
-  pub settings_of_texts : (result : Result Configured ConfFault)
-      → IfOk result (λ s. IsRead Compare (places before text after) s)
-      → IfOk result (λ s. ReadsAs Compare job.before text job.after (Ok s))
-  settings_of_texts (Ok s) reads = reads_for job before text after (Ok s) is_before is_after reads
-  settings_of_texts (Err fault) reads = tt
-
-  pub fault_of_texts : (result : Result Configured ConfFault)
-      → IfErr result (λ f. IsRefused Compare (places before text after) f ⊎ IsStarved Compare (places before text after) f)
-      → IfErr result (λ f. (f.kind ≡ Memory → ⊥) → ReadsAs Compare job.before text job.after (Err f))
-  fault_of_texts (Ok s) refused = tt
-  fault_of_texts (Err fault) refused = search (rules, reads_for)
 
 -- ---- the job of the arguments
 

@@ -8,6 +8,7 @@ mod devices;
 mod file_reel;
 mod file_site;
 mod given_list;
+mod job_settings;
 mod line_databases;
 mod lines;
 mod lines_program;

@@ -1,9 +1,5 @@
 //! The program that writes lines of JSON.
-ghost use Rattle.std.specs.Prelude.{◌≡◌, ◌≢◌, ◌≤◌, ℕ, List, Some, None, Ok, Err, IfOk, IfErr};
-ghost use Rattle.std.specs.Prelude.{IsSome};
-ghost use Rattle.aide_conf.specs.ReadResult.{ReadsAs};
-ghost use Rattle.aide_conf.specs.declared.fault.ConfFaultKind.TheVariants.{Memory};
-ghost use Rattle.aide_conf.specs.declared.task.Need.TheVariants.{Compare};
+ghost use Rattle.std.specs.Prelude.{◌≡◌, ◌≤◌, Some, None, Ok, IsSome};
 ghost use Rattle.aide_db.specs.Count.{one_more};
 ghost use Rattle.aide_patterns.specs.List.{HasFirstFault, HasRules};
 ghost use Rattle.aide_patterns.specs.declared.fault.ListFault.{ListFault};
@@ -13,43 +9,28 @@ ghost use Rattle.aide_session.specs.LineSession.{IsLineSession, check_job_of};
 ghost use Rattle.aide_session.specs.GivenList.{IsListOf};
 ghost use Rattle.aide_session.specs.Says.{settings_told};
 ghost use Rattle.aide_session.specs.Session.{view_between};
-ghost use Rattle.aide_session.specs.code.LineParts.{HasTextForLines, RunsAlone, line_view_between};
+ghost use Rattle.aide_session.specs.code.LineParts.{RunsAlone, line_view_between};
 ghost use Rattle.aide_session.specs.code.LineParts.{peaks_between, trusted_between};
 ghost use Rattle.aide_session.specs.code.Parts.{AreSame, ClosesFor, EndsWith, part_between};
 ghost use Rattle.aide_line_run.specs.ListView.{list_read};
 ghost use Rattle.aide_words.specs.LineJob.{LineJobText, line_job_of, text_of_line_job};
 
-use crate::config_file::{ConfigFault, read_config};
 use crate::devices::Devices;
 use crate::given_list::{digest_of, put_list_line};
+use crate::job_settings::{JobConfig, job_settings, put_no_settings};
 use crate::line_databases::compare_lines;
-use crate::lines::{
-    put_conf_line, put_lines_usage_line, put_memory_line, put_too_large_line, put_unread_line,
-};
-use crate::program::run_job;
+use crate::lines::{put_lines_usage_line, put_memory_line};
+use crate::program::check_job;
 use crate::put::pass_on;
 use crate::site::{Site, SiteWithDesk};
 use crate::status::Status;
 use crate::telling::AsLine;
-use aide_conf::{ConfFault, ConfFaultKind, Need, Settings, Task};
+use aide_conf::{Settings, Task};
 use aide_line_run::{LeftOutList, Tasks};
 use aide_patterns::{Exclusions, ListFaultKind};
 use aide_report::Sink;
 use aide_words::{LineJob, Words, WordsFault, read_line_words, read_words};
 use std::alloc::Global;
-
-/// Reads the settings of a comparison from its three texts.
-fn read_line_settings(alloc: Global, job: &LineJob, text: &[u8]) -> Result<Settings, ConfFault>
-    ensures ok { IfOk result (λ settings. ReadsAs Compare job.now.before text.now job.now.after
-        (Ok settings)) }
-    ensures err { IfErr result (λ fault. fault.kind ≢ Memory
-        → ReadsAs Compare job.now.before text.now job.now.after (Err fault)) }
-    ensures named { IfOk result (λ settings. IsSome settings.old_path × IsSome settings.new_path) }
-{
-    let before = job.before.as_str().as_bytes();
-    let after = job.after.as_str().as_bytes();
-    Settings::read(alloc, before, text, after, Need::Compare)
-}
 
 /// Compares the databases that the settings name and those of the trusted pair of a job, whose list
 /// has been read.
@@ -88,39 +69,6 @@ fn compare_settings<S: Site, W: Sink, E: Sink>(
     compare_lines(&tasks, devices, trusted)
 }
 
-/// Runs the session of a comparison, whose list and configuration have been read.
-fn run_line_text<S: Site, W: Sink, E: Sink>(
-    job: &LineJob,
-    list: LeftOutList<'_>,
-    text: &[u8],
-    devices: &mut Devices<'_, AsLine, S, W, E>,
-    trusted: &mut SiteWithDesk<S>,
-) -> u8
-    ensures same { AreSame devices.old devices.new }
-    ensures closes { IsListOf job.now.without (list_read list.entry)
-        → HasTextForLines (S.file_at devices.old.site.now) (text_of_line_job job.now) text.now
-        → EndsLinesBy (text_of_line_job job.now) result
-        (S.failures devices.old.site.now)
-        (line_view_between S.Sources W.Sink E.Sink devices.old devices.new
-        trusted.old trusted.new) }
-    ensures lookups { S.lookups devices.new.site.now ≡ S.lookups devices.old.site.now }
-    ensures trusted_lookups { S.lookups trusted.new.site ≡ S.lookups trusted.old.site }
-{
-    match read_line_settings(devices.alloc, job, text) {
-        Ok(settings) => compare_settings(job, list, &settings, devices, trusted),
-        Err(fault) => match fault.kind {
-            ConfFaultKind::Memory => {
-                put_memory_line(devices.err);
-                Status::Memory as u8
-            }
-            _ => {
-                put_conf_line(devices.err, fault);
-                Status::Configuration as u8
-            }
-        },
-    }
-}
-
 /// Runs the session of a comparison, whose list has been read.
 fn run_listed<S: Site, W: Sink, E: Sink>(
     job: &LineJob,
@@ -137,21 +85,9 @@ fn run_listed<S: Site, W: Sink, E: Sink>(
     ensures lookups { S.lookups devices.new.site.now ≤ one_more (S.lookups devices.old.site.now) }
     ensures trusted_lookups { S.lookups trusted.new.site ≡ S.lookups trusted.old.site }
 {
-    let path = job.config.as_str();
-    match read_config(devices.alloc, devices.site, path) {
-        Ok(text) => run_line_text(job, list, text.as_slice(), devices, trusted),
-        Err(ConfigFault::TooLarge) => {
-            put_too_large_line(devices.err);
-            Status::Configuration as u8
-        }
-        Err(ConfigFault::Unread) => {
-            put_unread_line(devices.err, path);
-            Status::Device as u8
-        }
-        Err(ConfigFault::Memory) => {
-            put_memory_line(devices.err);
-            Status::Memory as u8
-        }
+    match job_settings(devices.alloc, devices.site, &JobConfig::of_lines(job)) {
+        Ok(settings) => compare_settings(job, list, &settings, devices, trusted),
+        Err(why) => put_no_settings(devices.err, job.config.as_str(), why),
     }
 }
 
@@ -232,7 +168,7 @@ fn run_check_words<S: Site, W: Sink, E: Sink>(
                 put_lines_usage_line(devices.err);
                 return Status::Usage as u8;
             }
-            run_job(&job, devices)
+            check_job(&job, devices)
         }
         Err(WordsFault::Usage) => {
             put_lines_usage_line(devices.err);

@@ -1,112 +1,32 @@
 //! The whole program over any site.
-ghost use Rattle.std.specs.Prelude.{◌≡◌, ◌≢◌, ◌≤◌, ℕ, List, Option, Some, None, Ok, Err, true};
-ghost use Rattle.std.specs.Prelude.{IsSome, IfOk, IfErr, false};
-ghost use Rattle.aide_conf.specs.declared.fault.ConfFaultKind.TheVariants.{Memory};
+ghost use Rattle.std.specs.Prelude.{◌≡◌, ◌≤◌, Option, Some, None, true, false};
 ghost use Rattle.aide_db.specs.Count.{one_more};
-ghost use Rattle.aide_session.specs.Answer.{IsAnswerBy, IsJobAnswerBy, IsTextAnswerBy, need_of};
+ghost use Rattle.aide_session.specs.Answer.{IsAnswerBy, IsJobAnswerBy};
 ghost use Rattle.aide_session.specs.Session.{HoldsBy, IsSessionBy, view_between};
 ghost use Rattle.aide_session.specs.code.Parts.{AreSame, ClosesFor, EndsWith, HoldsWith};
 ghost use Rattle.aide_session.specs.code.Parts.{KeepsPeak, part_between};
-ghost use Rattle.aide_session.specs.code.Premises.{HasRead, ReadsOnlyAs};
 ghost use Rattle.aide_words.specs.Job.{JobText, job_of, text_of_job};
 
 use crate::config_check::check;
-use crate::config_file::{ConfigFault, read_config};
 use crate::databases::compare;
 use crate::devices::Devices;
-use crate::lines::{
-    put_conf_line, put_memory_line, put_too_large_line, put_unread_line, put_usage_line,
-};
+use crate::job_settings::{JobConfig, job_settings, put_no_settings};
+use crate::lines::{put_memory_line, put_usage_line};
 use crate::put::pass_on;
 use crate::site::Site;
 use crate::status::Status;
 use crate::telling::{Silent, Telling};
-use aide_conf::{ConfFault, ConfFaultKind, Need, Settings};
 use aide_db::{Desk, Sources};
 use aide_report::Sink;
 use aide_words::{Job, Words, WordsFault, read_words};
 use std::alloc::Global;
 
-/// Returns what the configuration of a job is read for.
-fn need(compare: bool) -> Need
-    ensures { result ≡ need_of compare }
-{
-    if compare { Need::Compare } else { Need::Check }
-}
-
-/// A job, and the text of its configuration.
-#[derive(Clone, Copy)]
-struct PreparedJob<'a> {
-    job: &'a Job,
-    text: &'a [u8],
-}
-
-/// Reads the settings of a job from its three texts.
-fn read_settings(alloc: Global, prepared: &PreparedJob<'_>) -> Result<Settings, ConfFault>
-    ensures ok { IfOk result (λ settings. ReadsOnlyAs (text_of_job prepared.now.job.now)
-        prepared.now.text.now (Ok settings)) }
-    ensures err { IfErr result (λ fault. fault.kind ≢ Memory
-        → ReadsOnlyAs (text_of_job prepared.now.job.now) prepared.now.text.now (Err fault)) }
-    ensures named { prepared.now.job.now.compare ≡ true
-        → IfOk result (λ settings. IsSome settings.old_path × IsSome settings.new_path) }
-{
-    let job = prepared.job;
-    let before = job.before.as_str().as_bytes();
-    let after = job.after.as_str().as_bytes();
-    Settings::read(alloc, before, prepared.text, after, need(job.compare))
-}
-
-/// Runs the session of a job whose configuration has been read.
-fn run_prepared<T: Telling, S: Site, W: Sink, E: Sink>(
-    prepared: &PreparedJob<'_>,
-    devices: &mut Devices<'_, T, S, W, E>,
-) -> u8
-    ensures same { AreSame devices.old devices.new }
-    ensures ends { EndsWith
-        (λ files. IsTextAnswerBy T.says files (text_of_job prepared.now.job.now)
-        prepared.now.text.now)
-        result (part_between S.Sources W.Sink E.Sink devices.old devices.new) }
-    ensures closes { (wanted : Option JobText)
-        → HasRead (S.file_at devices.old.site.now) wanted (text_of_job prepared.now.job.now)
-        prepared.now.text.now
-        → ClosesFor T.says wanted result
-        (part_between S.Sources W.Sink E.Sink devices.old devices.new) }
-    ensures site_never_falls { S.failures devices.old.site.now ≤ S.failures devices.new.site.now }
-    ensures lookups { S.lookups devices.new.site.now ≡ S.lookups devices.old.site.now }
-    ensures peak { KeepsPeak devices.old devices.new }
-    ensures still { prepared.now.job.now.compare ≡ false
-        → devices.new.desk.now.peak ≡ devices.old.desk.now.peak }
-    ensures bound { HoldsWith
-        (λ files. IsTextAnswerBy T.says files (text_of_job prepared.now.job.now)
-        prepared.now.text.now)
-        (S.file_at devices.old.site.now) devices.old devices.new }
-{
-    match read_settings(devices.alloc, prepared) {
-        Ok(settings) => {
-            if prepared.job.compare {
-                compare(&settings, devices)
-            } else {
-                check(&settings, devices)
-            }
-        }
-        Err(fault) => match fault.kind {
-            ConfFaultKind::Memory => {
-                put_memory_line(devices.err);
-                Status::Memory as u8
-            }
-            _ => {
-                put_conf_line(devices.err, fault);
-                Status::Configuration as u8
-            }
-        },
-    }
-}
-
-/// Runs the session of a job.
-pub(crate) fn run_job<T: Telling, S: Site, W: Sink, E: Sink>(
+/// Runs the session of a job that only checks a configuration.
+pub(crate) fn check_job<T: Telling, S: Site, W: Sink, E: Sink>(
     job: &Job,
     devices: &mut Devices<'_, T, S, W, E>,
 ) -> u8
+    requires { job.now.compare ≡ false }
     ensures same { AreSame devices.old devices.new }
     ensures ends { EndsWith (λ files. IsJobAnswerBy T.says files (text_of_job job.now)) result
         (part_between S.Sources W.Sink E.Sink devices.old devices.new) }
@@ -114,30 +34,34 @@ pub(crate) fn run_job<T: Telling, S: Site, W: Sink, E: Sink>(
         → ClosesFor T.says wanted result
         (part_between S.Sources W.Sink E.Sink devices.old devices.new) }
     ensures lookups { S.lookups devices.new.site.now ≤ one_more (S.lookups devices.old.site.now) }
+    ensures still { devices.new.desk.now.peak ≡ devices.old.desk.now.peak }
+{
+    match job_settings(devices.alloc, devices.site, &JobConfig::of(job)) {
+        Ok(settings) => check(&settings, devices),
+        Err(why) => put_no_settings(devices.err, job.config.as_str(), why),
+    }
+}
+
+/// Runs the session of a job that compares databases.
+fn compare_job<S: Site, W: Sink, E: Sink>(
+    job: &Job,
+    devices: &mut Devices<'_, Silent, S, W, E>,
+) -> u8
+    requires { job.now.compare ≡ true }
+    ensures same { AreSame devices.old devices.new }
+    ensures ends { EndsWith (λ files. IsJobAnswerBy None files (text_of_job job.now)) result
+        (part_between S.Sources W.Sink E.Sink devices.old devices.new) }
+    ensures closes { (wanted : Option JobText) → wanted ≡ Some (text_of_job job.now)
+        → ClosesFor None wanted result
+        (part_between S.Sources W.Sink E.Sink devices.old devices.new) }
+    ensures lookups { S.lookups devices.new.site.now ≤ one_more (S.lookups devices.old.site.now) }
     ensures peak { KeepsPeak devices.old devices.new }
-    ensures still { job.now.compare ≡ false
-        → devices.new.desk.now.peak ≡ devices.old.desk.now.peak }
-    ensures bound { HoldsWith (λ files. IsJobAnswerBy T.says files (text_of_job job.now))
+    ensures bound { HoldsWith (λ files. IsJobAnswerBy None files (text_of_job job.now))
         (S.file_at devices.old.site.now) devices.old devices.new }
 {
-    let path = job.config.as_str();
-    match read_config(devices.alloc, devices.site, path) {
-        Ok(text) => {
-            let text = text.as_slice();
-            run_prepared(&PreparedJob { job, text }, devices)
-        }
-        Err(ConfigFault::TooLarge) => {
-            put_too_large_line(devices.err);
-            Status::Configuration as u8
-        }
-        Err(ConfigFault::Unread) => {
-            put_unread_line(devices.err, path);
-            Status::Device as u8
-        }
-        Err(ConfigFault::Memory) => {
-            put_memory_line(devices.err);
-            Status::Memory as u8
-        }
+    match job_settings(devices.alloc, devices.site, &JobConfig::of(job)) {
+        Ok(settings) => compare(&settings, devices),
+        Err(why) => put_no_settings(devices.err, job.config.as_str(), why),
     }
 }
 
@@ -158,7 +82,13 @@ pub(crate) fn run_words<S: Site, W: Sink, E: Sink>(
         (S.file_at devices.old.site.now) devices.old devices.new }
 {
     match read_words(devices.alloc, words) {
-        Ok(job) => run_job(&job, devices),
+        Ok(job) => {
+            if job.compare {
+                compare_job(&job, devices)
+            } else {
+                check_job(&job, devices)
+            }
+        }
         Err(WordsFault::Usage) => {
             put_usage_line(devices.err);
             Status::Usage as u8

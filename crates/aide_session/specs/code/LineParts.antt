@@ -9,7 +9,7 @@ use Rattle.aide_merge.specs.RightAnswer.{TellsSide}
 use Rattle.aide_session.specs.Answer.{IsAnswerBy, Named}
 use Rattle.aide_session.specs.LineEnds.{LineView}
 use Rattle.aide_session.specs.LineSession.{DeskPeaks, line_view, check_job_of}
-use Rattle.aide_session.specs.Files.{Files, is_too_large}
+use Rattle.aide_session.specs.Files.{Files}
 use Rattle.aide_session.specs.Session.{SessionView, view_between}
 use Rattle.aide_session.specs.Says.{settings_told}
 use Rattle.aide_session.specs.Trusted.{trusted_at}
@@ -17,7 +17,6 @@ use Rattle.aide_session.specs.code.Parts.{ClosesFor, EndsWith, part_between}
 use Rattle.aide_session.specs.declared.devices.Devices.{Devices}
 use Rattle.aide_session.specs.declared.site.SiteWithDesk.{SiteWithDesk}
 use Rattle.aide_text.specs.declared.sink.Sink.{Ghosts as AnySink}
-use Rattle.aide_words.specs.LineJob.{LineJobText}
 
 -- the paths of what is asked for, and that of the configuration
 abbrev pub named_by : List ℕ → Asked → Named
@@ -68,11 +67,6 @@ pub record IsPointed (files : Files) (asked : Asked) (bytes_of : Side → Option
       → TellsSide (bytes_of Old) (is_missing Old) file
   pub of_new : (file : Option (List ℕ)) → files asked.new_path ≡ Some file
       → TellsSide (bytes_of New) (is_missing New) file
-
--- The configuration of a job has this text. If the file is known, the text is the file's.
-pub record HasTextForLines (files : Files) (job : LineJobText) (text : List ℕ) : Type 0 where
-  pub text_is : (file : Option (List ℕ)) → files job.config ≡ Some file → file ≡ Some text
-  pub small : is_too_large text ≡ false
 
 -- A part of a session whose arguments ask for no comparison: it is one that may check a configuration
 -- and opens no database.

@@ -1,31 +1,13 @@
 -- What is known where a part of a session begins.
-use Rattle.std.specs.Prelude.{◌≡◌, ℕ, Bool, false, List, Option, Some, Result}
-use Rattle.aide_conf.specs.ReadResult.{ReadsAs}
-use Rattle.aide_conf.specs.Settings.{Configured}
-use Rattle.aide_conf.specs.declared.fault.ConfFault.{ConfFault}
+use Rattle.std.specs.Prelude.{◌≡◌, ℕ, Bool, List, Option, Some}
 use Rattle.aide_db.specs.declared.side.Side.{Side}
 use Rattle.aide_db.specs.declared.side.Side.TheVariants.{Old, New}
 use Rattle.aide_merge.specs.Asked.{Asked}
 use Rattle.aide_merge.specs.RightAnswer.{TellsSide}
-use Rattle.aide_session.specs.Answer.{Answer, IsCompared, Named, need_of}
+use Rattle.aide_session.specs.Answer.{Answer, IsCompared, Named}
 use Rattle.aide_session.specs.Closing.{AsksToCompare, HasText}
-use Rattle.aide_session.specs.Files.{Files, is_too_large}
+use Rattle.aide_session.specs.Files.{Files}
 use Rattle.aide_words.specs.Job.{JobText}
-
--- The arguments ask for this job, and this is the text of its configuration. If the file is known,
--- the text is the file's.
-pub record HasRead (files : Files) (wanted : Option JobText) (job : JobText)
-    (text : List ℕ) : Type 0 where
-  pub job_is : wanted ≡ Some job
-  pub text_is : (file : Option (List ℕ)) → files job.config ≡ Some file → file ≡ Some text
-  pub small : is_too_large text ≡ false
-
--- a job whose configuration has this text reads as `read`, and as nothing else
-pub record ReadsOnlyAs (job : JobText) (text : List ℕ)
-    (read : Result Configured ConfFault) : Type 0 where
-  pub reads : ReadsAs (need_of job.compare) job.before text job.after read
-  pub only : (other : Result Configured ConfFault)
-      → ReadsAs (need_of job.compare) job.before text job.after other → other ≡ read
 
 -- The comparison that is asked for, of what is shown of the sides of a site. `Compares` says the
 -- same of what is at the paths.

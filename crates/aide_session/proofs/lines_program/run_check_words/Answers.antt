@@ -18,12 +18,12 @@ returns-then-job-clause-closes g c =
     (compares_no_check c.args.words.now (text_of_job c.in-Ok.job) c.in-Ok.ensures.ok c.if-job.true) c.put_lines_usage_line.ensures refl refl
 
 pub returns-else-job-clause-ends : goal.returns-else-job-clause-ends
-returns-else-job-clause-ends g c = λ named a is. c.run_job.ensures.ends named a
+returns-else-job-clause-ends g c = λ named a is. c.check_job.ensures.ends named a
     (job_is (Some settings_told) _ (check_job_of c.args.words.now) (text_of_job c.in-Ok.job) named a
     (is_check c.args.words.now (text_of_job c.in-Ok.job) c.in-Ok.ensures.ok c.if-job.false) is)
 
 pub returns-else-job-clause-closes : goal.returns-else-job-clause-closes
-returns-else-job-clause-closes g c = c.run_job.ensures.closes (check_job_of c.args.words.now)
+returns-else-job-clause-closes g c = c.check_job.ensures.closes (check_job_of c.args.words.now)
     (is_check c.args.words.now (text_of_job c.in-Ok.job) c.in-Ok.ensures.ok c.if-job.false)
 
 pub returns-in-Err-Usage-clause-ends : goal.returns-in-Err-Usage-clause-ends
