@@ -1,4 +1,4 @@
--- The merge of two lists in the order of their keys. Contracts inside this crate use it.
+-- The merge of two lists in the order of their keys. The contracts of the passes over two databases cite it.
 use Rattle.std.specs.Prelude.{List, [], ◌∷◌, map, Some, None}
 use Rattle.std.specs.declared.cmp.Ordering.{Ordering}
 use Rattle.std.specs.declared.cmp.Ordering.TheVariants.{Less, Equal, Greater}

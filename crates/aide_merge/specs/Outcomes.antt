@@ -9,7 +9,7 @@ use Rattle.aide_db.specs.Map.{Database}
 use Rattle.aide_text.specs.declared.counts.Counts.{Counts}
 use Rattle.aide_merge.specs.declared.outcome.Outcome.{Outcome}
 
--- how many paths were added, removed and changed, how many the new map has, and how many show an attribute
+-- how many paths were added, removed and changed, how many the new map contains, and how many show an attribute
 abbrev pub counts_of : Options → Database → Database → Counts
 counts_of options old new = record {
   added = length (added old new);

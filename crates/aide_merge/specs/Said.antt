@@ -1,4 +1,4 @@
--- What is said of a change: its summary string, which attributes are shown, whether it is listed.
+-- What a report says of a change: its summary string, which attributes it shows, whether it lists the change.
 use Rattle.std.specs.Prelude.{ℕ, Bool, true, false, ◌&&◌, List, [], Some, None, is_some, ◌||◌}
 use Rattle.std.specs.List.{list_any}
 use Rattle.aide_attr.specs.Attr.{all_attrs}
@@ -19,7 +19,7 @@ use Rattle.aide_merge.specs.Changes.{is_added, is_removed, is_changed}
 use Rattle.aide_text.specs.declared.section.Contents.{Contents}
 use Rattle.aide_text.specs.declared.section.Contents.TheVariants.{Listed, Detailed}
 
--- a path, and what both databases have there
+-- a path, and the entry of each database at this path
 abbrev pub PathChange : Type 0
 PathChange = Change (List ℕ) Attributes
 
@@ -35,7 +35,7 @@ abbrev pub shows_alone : Level → Bool
 shows_alone AddedRemovedEntries = true
 shows_alone _ = false
 
--- whether details show the attribute of what both databases have at one path
+-- whether the details of a path show the attribute, by the entries of both databases
 abbrev pub shows_at : Options → Pair → Attr → Bool
 shows_at options (None, None) a = false
 shows_at options (None, Some new) a = shows_alone options.level && is_some (new a)
@@ -43,7 +43,7 @@ shows_at options (Some old, None) a = shows_alone options.level && is_some (old 
 shows_at options (Some old, Some new) a =
     is_shown (sides_between old new) options.ignore options.level a
 
--- whether details show some attribute of what both databases have at one path
+-- whether the details of a path show some attribute
 unfoldable pub shows_any : Options → Pair → Bool
 shows_any options pair = list_any (shows_at options pair) all_attrs
 
@@ -55,7 +55,7 @@ is_shown_entry options entry = shows_any options entry.1
 abbrev pub all_listed : Contents
 all_listed = Listed true true true
 
--- whether a section with these contents has the change
+-- whether the change is in a section with these contents
 abbrev pub is_in : Options → Contents → PathChange → Bool
 is_in options (Listed added removed changed) entry =
     (added && is_added entry)

@@ -1,4 +1,4 @@
--- What a report says first. The numbers of its outcome determine that, whatever the sources show of their bytes.
+-- How a report begins. The numbers of its outcome determine its beginning, even if the sources show no bytes.
 use Rattle.std.specs.Prelude.{◌≡◌, ℕ, ◌+◌, ◌&&◌, not, Bool, false, if◌then◌else◌, Option, List, []}
 use Rattle.std.specs.Prelude.{◌++◌}
 use Rattle.std.specs.Io.KnownBytes.{Appends}
@@ -12,7 +12,7 @@ use Rattle.aide_attr.specs.Level.{reaches}
 use Rattle.aide_text.specs.declared.counts.Counts.{Counts}
 use Rattle.aide_merge.specs.declared.outcome.Outcome.{Outcome}
 
--- the head and the summary; a silent report has neither
+-- the head and the summary; a silent report contains neither
 abbrev pub beginning_of : Options → (total added removed changed : ℕ) → List ℕ
 beginning_of options total added removed changed =
     if is_silent options (databases_differ added removed changed) then []
@@ -45,7 +45,7 @@ IsOfOutcome options outcome old new =
     BeginsWith (beginning_of options outcome.total outcome.added outcome.removed outcome.changed)
     (goes_on options outcome.added outcome.removed outcome.changed) old new
 
--- the counts of an outcome, and how many paths show an attribute, which the outcome does not say
+-- the counts of an outcome, with the number of paths that show an attribute
 abbrev pub counts_told : Outcome → ℕ → Counts
 counts_told outcome shown = record {
   added = outcome.added;

@@ -45,7 +45,7 @@ databases_of base16 old_origin new_origin =
 
 -- ---- the whole
 
--- the texts of all sections of entries that the report has
+-- the texts of all sections of entries that the report contains
 unfoldable pub sections_text : Options → Counts → List PathChange → List ℕ
 sections_text options counts entries =
     flat_map (section_text options entries) (sections_of options counts)
@@ -72,7 +72,7 @@ text_of options old_origin new_origin counts entries =
     if is_silent options (differs counts) then []
     else parts_of options old_origin new_origin counts entries
 
--- how many sections of entries the report has
+-- how many sections of entries the report contains
 abbrev pub section_count : Options → Counts → ℕ
 section_count options counts =
     if is_silent options (differs counts) then 0 else length (sections_of options counts)

@@ -34,7 +34,7 @@ report_over asked old new = record {
       (skipped_in (columns_of_text new));
 }
 
--- how many sections of entries that report has
+-- how many sections of entries that report contains
 unfoldable pub sections_over : Asked → List ℕ → List ℕ → ℕ
 sections_over asked old new =
     section_count asked.options (counts_of asked.options (database_of old) (database_of new))

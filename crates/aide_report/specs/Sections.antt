@@ -14,14 +14,14 @@ use Rattle.aide_text.specs.declared.section.Section.{Section}
 
 -- ---- which sections there are
 
--- whether a section with these contents has an entry, by the counts
+-- whether any entry is in a section with these contents, by the counts
 abbrev pub has_entry : Counts → Contents → Bool
 has_entry counts (Listed added removed changed) =
     (added && not (counts.added == 0))
     || ((removed && not (counts.removed == 0)) || (changed && not (counts.changed == 0)))
 has_entry counts Detailed = not (counts.shown == 0)
 
--- whether the report has the section: the options ask for it, and it has an entry
+-- whether the report contains the section: the options ask for it, and an entry is in it
 abbrev pub is_there : Options → Counts → Section → Bool
 is_there options counts section =
     is_asked options.level options.grouped section && has_entry counts (contents_of section)
@@ -32,24 +32,24 @@ sections_of options counts = filter (is_there options counts) all_sections
 
 -- ---- their texts
 
--- whether a list is to have changes of this kind, if they are listed at all
+-- whether a list is to contain changes of this kind, if they are listed at all
 abbrev pub lists : Contents → PathChange → Bool
 lists (Listed added removed changed) (path, (None, Some new)) = added
 lists (Listed added removed changed) (path, (Some old, None)) = removed
 lists (Listed added removed changed) (path, (Some old, Some new)) = changed
 lists _ _ = false
 
--- what a section with these contents says about a change that it has: a line, or details
+-- what a section with these contents says about a change in it: a line, or details
 abbrev pub entry_text : Options → Contents → PathChange → List ℕ
 entry_text options (Listed added removed changed) entry = list_line options entry
 entry_text options Detailed entry = entry_details options entry
 
--- the same, and nothing for a change that they do not have
+-- the same, and nothing for a change that is not in it
 unfoldable pub one_text : Options → Contents → PathChange → List ℕ
 one_text options contents entry =
     if is_in options contents entry then entry_text options contents entry else []
 
--- what a section with these contents says about all changes that it has, in their order
+-- what a section with these contents says about all changes in it, in their order
 unfoldable pub entries_text : Options → Contents → List PathChange → List ℕ
 entries_text options contents entries =
     flat_map (entry_text options contents) (filter (is_in options contents) entries)
