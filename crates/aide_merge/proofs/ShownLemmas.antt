@@ -4,16 +4,14 @@ use Rattle.std.proofs.Common.{arith, get_or, inl, inr}
 use Rattle.std.specs.Prelude.{◌||◌, not, IsTrue, ◌↔◌}
 use Rattle.std.specs.List.{list_any}
 use Rattle.aide_attr.specs.declared.attr.Attr.{Attr}
-use Rattle.aide_attr.specs.declared.delta.Delta.{Delta}
 use Rattle.aide_attr.specs.declared.delta.Ignore.{Ignore}
 use Rattle.aide_attr.specs.declared.level.Level.{Level}
 use Rattle.aide_attr.specs.declared.set.AttrSet.{AttrSet}
 use Rattle.aide_attr.specs.Attr.{index, all_attrs, count}
-use Rattle.aide_attr.specs.Difference.{Sides, sides_of, is_shown}
+use Rattle.aide_attr.specs.Difference.{Sides, is_shown}
 use Rattle.aide_attr.specs.Set.{has}
 use Rattle.aide_attr.proofs.AttrLemmas.{at_index, index_small}
 use Rattle.aide_attr.proofs.WalkLemmas.{bool_cases}
-use Rattle.aide_entry.specs.Attributes.{Attributes, sides_between}
 
 none_any : (p : Attr → Bool) (xs : List Attr) (k : ℕ) (d : Attr) → list_any p xs ≡ false → k < length xs
     → p (get_or xs k d) ≡ false
@@ -58,20 +56,3 @@ same_shown s t ignore level a in_old in_new differs i = is_shown (record {
   old_type = s.old_type;
   new_type = s.new_type;
 }) ignore level a
-
--- two entries differ as the difference between them says
-pub same_sides : (d : Delta) (old new : Attributes)
-    → ((a : Attr) → (sides_of d).in_old a ≡ (sides_between old new).in_old a)
-    → ((a : Attr) → (sides_of d).in_new a ≡ (sides_between old new).in_new a)
-    → ((a : Attr) → (sides_of d).differs a ≡ (sides_between old new).differs a)
-    → (sides_of d).size ≡ (sides_between old new).size → (sides_of d).old_type ≡ (sides_between old new).old_type
-    → (sides_of d).new_type ≡ (sides_between old new).new_type
-    → sides_of d ≡ sides_between old new
-same_sides d old new in_old in_new differs size old_type new_type i = record {
-  in_old = λ a. in_old a i;
-  in_new = λ a. in_new a i;
-  differs = λ a. differs a i;
-  size = size i;
-  old_type = old_type i;
-  new_type = new_type i;
-}

@@ -4,7 +4,7 @@ use Rattle.aide_attr.specs.Difference.{sides_of}
 use Rattle.aide_attr.specs.Summary.{summary_letters}
 use Rattle.aide_entry.specs.View.{entry_in}
 use Rattle.aide_merge.proofs.DifferenceLemmas.{differ_from}
-use Rattle.aide_merge.proofs.ShownLemmas.{same_sides}
+use Rattle.aide_agreement.proofs.AgreeLemmas.{same_sides}
 use Rattle.aide_merge.proofs.difference.letters_between.Goals as goal
 
 pub returns-then-is_empty-clause-differ : goal.returns-then-is_empty-clause-differ
