@@ -14,7 +14,6 @@ pub mod PassingLemmas
 pub mod PenLemmas
 pub mod RoomLemmas
 pub mod SameEntries
-pub mod ShownLemmas
 pub mod SideLemmas
 pub mod StandingLemmas
 pub mod Steps

@@ -1,10 +1,10 @@
 -- An entry does not differ from itself.
-use Rattle.std.proofs.Common.{◌≡◌, ◌∙◌, List, [], ◌∷◌, refl, ap, true, false, Bool, ◌&&◌, ◌||◌, not}
+use Rattle.std.proofs.Common.{◌≡◌, ◌∙◌, refl, ap, true, false, Bool, ◌&&◌, ◌||◌, not}
 use Rattle.std.specs.Prelude.{Some, is_some}
-use Rattle.std.specs.List.{list_any}
 use Rattle.aide_attr.specs.Attr.{all_attrs}
 use Rattle.aide_attr.specs.Difference.{is_reported, is_shown, shown_at}
 use Rattle.aide_attr.specs.Set.{has}
+use Rattle.aide_agreement.proofs.ListLemmas.{none_of}
 use Rattle.aide_attr.specs.declared.attr.Attr.{Attr}
 use Rattle.aide_attr.specs.declared.delta.Ignore.{Ignore}
 use Rattle.aide_attr.specs.declared.level.Level.{Level}
@@ -28,13 +28,9 @@ none_reported i old a =
     none_bool (is_different (old a) (old a)) (is_some (old a)) (not (has i.changed a)) (not (has i.added a)) (not (has i.removed a))
     (never_different (old a))
 
-none_any : (p : Attr → Bool) (xs : List Attr) → ((a : Attr) → p a ≡ false) → list_any p xs ≡ false
-none_any p [] h = refl
-none_any p (x ∷ xs) h = rw (h x, none_any p xs h) refl
-
 pub never_differs : (i : Ignore) (old new : Attributes) → old ≡ new → differ_by i old new ≡ false
 unfolding differ_by
-never_differs i old new e = rw (← e) (none_any (is_reported (sides_between old old) i) all_attrs (none_reported i old))
+never_differs i old new e = rw (← e) (none_of (is_reported (sides_between old old) i) (none_reported i old) all_attrs)
 
 pub never_shown : (i : Ignore) (level : Level) (a : Attr) (old new : Attributes) → old ≡ new
     → is_shown (sides_between old new) i level a ≡ false
@@ -44,8 +40,8 @@ never_shown i level a old new e = ap (λ b. b && shown_at (sides_between old new
 -- so no contents have it
 pub shows_nothing : (options : Options) (old : Attributes) → shows_any options (Some old, Some old) ≡ false
 unfolding shows_any
-shows_nothing options old = none_any (shows_at options (Some old, Some old)) all_attrs
-    (λ a. never_shown options.ignore options.level a old old refl)
+shows_nothing options old = none_of (shows_at options (Some old, Some old))
+    (λ a. never_shown options.ignore options.level a old old refl) all_attrs
 
 pub and_no : (b : Bool) → b && false ≡ false
 and_no true = refl

@@ -1,6 +1,6 @@
 use Rattle.aide_merge.specs.code.ChangeView.{change_of}
 use Rattle.aide_merge.specs.Said.{shows_at, shows_any}
-use Rattle.aide_merge.proofs.ShownLemmas.{any_in}
+use Rattle.aide_agreement.proofs.ListLemmas.{any_in}
 use Rattle.aide_report.proofs.count.counts_as.Goals as goal
 
 pub returns-clause-shown : goal.returns-clause-shown

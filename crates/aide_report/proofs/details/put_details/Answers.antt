@@ -9,7 +9,7 @@ use Rattle.aide_text.specs.PenSheet.{on_sheet}
 use Rattle.aide_text.specs.Layout.{path_line}
 use Rattle.aide_text.specs.declared.section.Contents.TheVariants.{Detailed}
 use Rattle.aide_report.proofs.EntriesLemmas.{shown_as, text_of_one, text_of_none}
-use Rattle.aide_merge.proofs.ShownLemmas.{any_in}
+use Rattle.aide_agreement.proofs.ListLemmas.{any_in}
 use Rattle.aide_text.proofs.Sheets.{wrote_more, wrote_as, wrote_nothing}
 use Rattle.aide_report.proofs.details.put_details.Goals as goal
 
