@@ -1,8 +1,7 @@
 -- Entries that a desk holds alike: they are the same, so their paths tie and nothing differs.
+use Rattle.std.proofs.Common.{rules}
 use Rattle.std.specs.Prelude.{◌≡◌, ℕ, List, Option, Some, None, [], ◌∷◌}
 use Rattle.std.proofs.Common.{sym, ap, ◌∙◌}
-use Rattle.std.specs.Cmp.{tied_itself}
-use Rattle.std.specs.declared.cmp.Ordering.{Ordering}
 use Rattle.aide_db.specs.Alike.{HoldsAlike}
 use Rattle.aide_entry.specs.Attributes.{Attributes, Entry}
 use Rattle.aide_entry.specs.View.{entry_at}
@@ -16,7 +15,7 @@ use Rattle.aide_merge.specs.code.ChangeView.{IsAlike}
 use Rattle.aide_merge.specs.code.NextEntry.{next_entry}
 use Rattle.aide_merge.specs.code.NextPath.{change_by, next_change}
 use Rattle.aide_merge.specs.declared.merge.NextEntry.{NextEntry}
-use Rattle.aide_merge.specs.declared.merge.NextEntry.TheVariants.{Due, Here, Ended}
+use Rattle.aide_merge.specs.declared.merge.NextEntry.TheVariants.{Here}
 
 abbrev entry_or : Entry → Option Entry → Entry
 entry_or e None = e
@@ -30,22 +29,14 @@ same_shown d old new (filled, lines, columns) shows_old shows_new =
 
 shown_of_next : (next : NextEntry) (shown : Option Entry) (entry : Entry) → next_entry next shown ≡ Some entry
     → shown ≡ Some entry
-shown_of_next Due shown entry e = cc
 shown_of_next Here shown entry e = e
-shown_of_next Ended shown entry e = cc
+shown_of_next _ shown entry e = cc
 
 -- the next path is that of both sides, with one entry
 pub next_of_alike : (d : DeskView) (old_next new_next : NextEntry) (old new : Entry) → HoldsAlike d
     → next_entry old_next (desk_entry Old d) ≡ Some old → next_entry new_next (desk_entry New d) ≡ Some new
     → IsAlike (next_change (next_entry old_next (desk_entry Old d)) (next_entry new_next (desk_entry New d)))
-next_of_alike d old_next new_next old new alike shows_old shows_new =
-    let same = same_shown d old new alike (shown_of_next old_next (desk_entry Old d) old shows_old)
-    (shown_of_next new_next (desk_entry New d) new shows_new) in
-    record {
-      entry = old;
-      only = (λ i. next_change (shows_old i) (shows_new i)) ∙ ap (λ (e : Entry). change_by (path_cmp old.0 e.0) old e ∷ []) (sym same)
-          ∙ ap (λ (r : Ordering). change_by r old old ∷ []) (tied_itself path_cmp_total old.0);
-    }
+next_of_alike d old_next new_next old new alike shows_old shows_new = search (rules, same_shown, shown_of_next, path_cmp_total)
 
 -- the next path is that of the first of two entries
 pub next_of_both : (old new : Entry) {old_shown new_shown : Option Entry} (change : Change (List ℕ) Attributes)

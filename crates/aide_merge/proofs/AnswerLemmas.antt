@@ -7,7 +7,7 @@ use Rattle.aide_db.specs.declared.side.Side.{Side}
 use Rattle.aide_db.specs.declared.side.Side.TheVariants.{Old, New}
 use Rattle.aide_merge.specs.RightAnswer.{TellsSide, RunsOverBy, IsHindered, StopsFor, run_answer, Report, RunsBy}
 use Rattle.aide_merge.specs.declared.run_fault.RunFault.{RunFault}
-use Rattle.aide_merge.specs.declared.run_fault.RunFault.TheVariants.{Open, Database, Changed, Write}
+use Rattle.aide_merge.specs.declared.run_fault.RunFault.TheVariants.{Write}
 
 pub true_false : true ≡ false → ⊥
 true_false e = cc
@@ -29,10 +29,8 @@ stops_by (Err right) one more fault then h = elim h [ inl is ↦ inl is | inr p 
 
 pub hindered_by : (old new : Option (List ℕ)) (sources sink : Type 0) (fault : RunFault)
     → IsHindered old new sources ⊥ fault → IsHindered old new sources sink fault
-hindered_by old new sources sink (Open side) h = h
-hindered_by old new sources sink (Database fault) h = h
-hindered_by old new sources sink (Changed side) h = h
 hindered_by old new sources sink (Write written) h = absurd h
+hindered_by old new sources sink _ h = h
 
 -- what is so of the right answer over both texts is so of that over what stands at both sides, where both are there
 pub over_texts : (limits : Limits) (over : List ℕ → List ℕ → Report) (bytes_of : Side → Option (List ℕ)) (is_missing : Side → Bool)

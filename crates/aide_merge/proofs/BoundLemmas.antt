@@ -1,5 +1,6 @@
 -- What is held stays within its bound.
-use Rattle.std.specs.Prelude.{◌≡◌, ◌≤◌, ◌*◌, ℕ, max, Option, Some, Result, Ok, Err, List, [], length}
+use Rattle.std.proofs.Common.{rules}
+use Rattle.std.specs.Prelude.{◌≡◌, ◌≤◌, ◌*◌, ℕ, max, Option, Some, Result, Ok, List, [], length}
 use Rattle.std.proofs.Common.{refl, ap, sym, subst, arith, inl, inr}
 use Rattle.aide_db.specs.CursorView.{CursorView}
 use Rattle.aide_db.specs.Desk.{list_of}
@@ -13,7 +14,7 @@ use Rattle.aide_db.specs.declared.limits.Limits.{Limits}
 use Rattle.aide_db.specs.declared.side.Side.{Side}
 use Rattle.aide_db.specs.declared.side.Side.TheVariants.{Old, New}
 use Rattle.aide_db.specs.declared.step.Step.{Step}
-use Rattle.aide_db.specs.declared.step.Step.TheVariants.{Record, End}
+use Rattle.aide_db.specs.declared.step.Step.TheVariants.{Record}
 use Rattle.aide_merge.specs.Bound.{Fits, FitsAfter, FitsAfterBoth, TakesWithin, OpensWithin}
 use Rattle.aide_merge.specs.Bound.{three_lines}
 use Rattle.aide_db.specs.Answer.{Stands}
@@ -28,31 +29,15 @@ fits_taken : (side : Side) (d e : DeskView) (longest old_line new_line before : 
     → length (list_of side e) ≤ max (length (list_of side d)) longest
     → d.peak ≤ e.peak → e.peak ≤ peak_limit side d longest → Fits old_line new_line before d
     → Fits old_line new_line before e
-fits_taken Old d e longest old_line new_line before short other own rises limit fits =
-    let same : length e.new_line ≡ length d.new_line = ap length other in
-    record {
-      old_list = omega (arith, fits.old_list);
-      new_list = omega (arith, fits.new_list);
-      peak = omega (arith, fits.peak);
-      bound = omega (arith, fits.old_list, fits.new_list, fits.bound);
-    }
-fits_taken New d e longest old_line new_line before short other own rises limit fits =
-    let same : length e.old_line ≡ length d.old_line = ap length other in
-    record {
-      old_list = omega (arith, fits.old_list);
-      new_list = omega (arith, fits.new_list);
-      peak = omega (arith, fits.peak);
-      bound = omega (arith, fits.old_list, fits.new_list, fits.bound);
-    }
+fits_taken Old d e longest old_line new_line before short other own rises limit fits = search (rules)
+fits_taken New d e longest old_line new_line before short other own rises limit fits = search (rules)
 
 -- a side's list is the one before, or has a line within the limit
 own_length : (side : Side) (d e : DeskView) (columns : List Column) (limit : ℕ) (answer : Result Step DbFault)
     → OwnAnswer side d e columns limit answer
     → length (list_of side e) ≤ max (length (list_of side d)) limit
 own_length side d e columns limit (Ok Record) own = omega (arith, own.short)
-own_length side d e columns limit (Ok End) own = let same : length (list_of side e)
-    ≡ length (list_of side d) = ap length own.0 in omega arith
-own_length side d e columns limit (Err fault) own = let same : length (list_of side e)
+own_length side d e columns limit _ own = let same : length (list_of side e)
     ≡ length (list_of side d) = ap length own.0 in omega arith
 
 -- a call of a cursor keeps within the bound
@@ -63,26 +48,15 @@ pub fits_next : {R : Type 0} (to_come : R → Option (List ℕ)) (c : CursorView
     → ((text : List ℕ) → Stands to_come c d text → e.peak ≤ peak_limit c.side d (longest_line c.limits text))
     → ((text : List ℕ) → Stands to_come c d text → length (list_of c.side e) ≤ max (length (list_of c.side d)) (longest_line c.limits text))
     → FitsAfter to_come c d e
-fits_next to_come c d e columns answer other own rises below long length_of old_line new_line before within fits = elim within [
-  | inl short ↦ fits_taken c.side d e c.limits.line old_line new_line before short other
-      (own_length c.side d e columns c.limits.line answer own) rises below fits
-  | inr stands ↦ fits_taken c.side d e (longest_line c.limits stands.text) old_line new_line before stands.within other
-      (length_of stands.text stands.stands) rises (long stands.text stands.stands) fits
-]
+fits_next to_come c d e columns answer other own rises below long length_of old_line new_line before within fits =
+    search (rules, fits_taken, own_length)
 
 -- a cursor that goes on standing for its texts takes no longer lines
 pub within_after : {R : Type 0} (to_come : R → Option (List ℕ)) (c after : CursorView R) (d e : DeskView) (longest : ℕ)
     → after.limits ≡ c.limits
     → ((text : List ℕ) → Stands to_come c d text → Stands to_come after e text)
     → TakesWithin to_come c d longest → TakesWithin to_come after e longest
-within_after to_come c after d e longest same keeps within = elim within [
-  | inl short ↦ inl (subst (λ (limits : Limits). limits.line ≤ longest) (sym same) short)
-  | inr stands ↦ inr (record {
-    text = stands.text;
-    stands = keeps stands.text stands.stands;
-    within = subst (λ (limits : Limits). longest_line limits stands.text ≤ longest) (sym same) stands.within;
-  })
-]
+within_after to_come c after d e longest same keeps within = search (rules)
 
 -- nor does a cursor whose side is as before
 pub within_across : {R : Type 0} (to_come : R → Option (List ℕ)) (c : CursorView R) (side : Side) (d e : DeskView) (longest : ℕ)
@@ -118,10 +92,7 @@ pub fits_on : {R : Type 0} (to_come : R → Option (List ℕ)) (c further : Curs
     → ((text : List ℕ) → Stands to_come c d text → Stands to_come further middle text)
     → FitsAfter to_come c d middle → FitsAfter to_come further middle e → FitsAfter to_come c d e
 fits_on to_come c further d middle e side same keeps first second old_line new_line before within fits =
-    second old_line new_line before
-    (within_at to_come further middle old_line new_line c.side side
-    (within_after to_come c further d middle (by_side old_line new_line c.side) same keeps within))
-    (first old_line new_line before within fits)
+    search (rules, within_at, within_after)
 
 -- a step of the old side's cursor, and then one of the new side's
 pub fits_both : {R : Type 0} (to_come : R → Option (List ℕ)) (m : Merge R) (d middle e : DeskView)
@@ -129,10 +100,7 @@ pub fits_both : {R : Type 0} (to_come : R → Option (List ℕ)) (m : Merge R) (
     → FitsAfter to_come m.old_cursor d middle → FitsAfter to_come m.new_cursor middle e
     → FitsAfterBoth to_come m d e
 fits_both to_come m d middle e is_old is_new kept first second old_line new_line before within_old within_new fits =
-    second old_line new_line before
-    (within_at to_come m.new_cursor middle old_line new_line New is_new
-    (within_across to_come m.new_cursor New d middle new_line is_new kept within_new))
-    (first old_line new_line before (within_at to_come m.old_cursor d old_line new_line Old is_old within_old) fits)
+    search (rules, within_at, within_across)
 
 -- a further step of a merge
 pub fits_further : {R : Type 0} (to_come : R → Option (List ℕ)) (m further : Merge R) (d middle e : DeskView)
@@ -149,34 +117,13 @@ fits_further to_come m further d middle e same keeps first second old_line new_l
 pub fits_opened : (side : Side) (d e : DeskView) → list_of side e ≡ []
     → list_of (other_side side) e ≡ list_of (other_side side) d → e.peak ≡ d.peak
     → (old_line new_line before : ℕ) → Fits old_line new_line before d → Fits old_line new_line before e
-fits_opened Old d e emptied other same old_line new_line before fits =
-    let none : length e.old_line ≡ 0 = ap length emptied in
-    let kept : length e.new_line ≡ length d.new_line = ap length other in
-    record {
-      old_list = omega arith;
-      new_list = omega (arith, fits.new_list);
-      peak = omega (arith, fits.peak);
-      bound = omega
-          (arith, fits.bound);
-    }
-fits_opened New d e emptied other same old_line new_line before fits =
-    let none : length e.new_line ≡ 0 = ap length emptied in
-    let kept : length e.old_line ≡ length d.old_line = ap length other in
-    record {
-      old_list = omega (arith, fits.old_list);
-      new_list = omega arith;
-      peak = omega (arith, fits.peak);
-      bound = omega
-          (arith, fits.bound);
-    }
+fits_opened Old d e emptied other same old_line new_line before fits = search (rules)
+fits_opened New d e emptied other same old_line new_line before fits = search (rules)
 
 -- a desk whose lists are empty fits any bounds
 pub fits_cleared : (d e : DeskView) → list_of Old e ≡ [] → list_of New e ≡ [] → e.peak ≡ d.peak
     → (old_line new_line : ℕ) → Fits old_line new_line d.peak e
-fits_cleared d e no_old no_new same old_line new_line =
-    let none_old : length e.old_line ≡ 0 = ap length no_old in
-    let none_new : length e.new_line ≡ 0 = ap length no_new in
-    record { old_list = omega arith; new_list = omega arith; peak = omega arith; bound = omega arith }
+fits_cleared d e no_old no_new same old_line new_line = search (rules)
 
 -- of any sources no line is longer than the limit
 pub fits_limit : (bytes_of : Side → Option (List ℕ)) (limits : Limits) (d e : DeskView)

@@ -1,4 +1,5 @@
 -- What calls of a cursor and of a merge keep, one after the other.
+use Rattle.std.proofs.Common.{rules}
 use Rattle.std.specs.Prelude.{ℕ, ◌≡◌, List, Result}
 use Rattle.std.proofs.Common.{refl, sym, subst, arith, ◌∙◌}
 use Rattle.aide_db.specs.Answer.{Stands}
@@ -8,7 +9,6 @@ use Rattle.aide_db.specs.Kept.{IsKept}
 use Rattle.aide_db.specs.NextCall.{IsNextOf, IsOutcomeOfNext, KeepsDesk}
 use Rattle.aide_db.specs.NextCall as called
 use Rattle.aide_db.specs.declared.fault.DbFault.{DbFault}
-use Rattle.aide_db.specs.declared.limits.Limits.{Limits}
 use Rattle.aide_db.specs.declared.reel.Reel.{Ghosts as Reels}
 use Rattle.aide_db.specs.declared.side.Side.{Side}
 use Rattle.aide_db.specs.declared.side.Side.TheVariants.{Old, New}
@@ -27,37 +27,18 @@ use Rattle.aide_merge.proofs.StandingLemmas.{stands_across, stands_at}
 
 -- no call
 pub cursor_none : {R : Type 0} (r : Reels R) (c : CursorView R) (d : DeskView) → KeepsCursor r c c d d
-cursor_none r c d = record {
-  side = refl;
-  limits = refl;
-  stands = λ text stands. stands;
-  room = refl;
-  fits = λ old_line new_line before within fits. fits;
-}
+cursor_none r c d = search (rules)
 
 -- the next entry, the end or a fault
 pub cursor_next : {R : Type 0} {r : Reels R} {c n : CursorView R} {d e : DeskView} {result : Result Step DbFault}
     → ((text : List ℕ) → Stands r.to_come c d text → IsNextOf r c n d e result text) → IsOutcomeOfNext r c n d e result
     → called.KeepsCursor r c n → KeepsDesk c.side c.limits.line d e → KeepsCursor r c n d e
-cursor_next {r = r} {c = c} {n = n} {d = d} {e = e} {result = result} is outcome cursor desk = record {
-  side = cursor.side;
-  limits = cursor.limits;
-  stands = λ text stands. stands_at r.to_come n c.side e text cursor.side (is text stands).keeps;
-  room = desk.other.room;
-  fits = fits_next r.to_come c d e n.columns result desk.other.other_list outcome.own desk.peak desk.below
-      (λ text stands. (is text stands).long) (λ text stands. (is text stands).short);
-}
+cursor_next {r = r} {c = c} {n = n} {d = d} {e = e} {result = result} is outcome cursor desk = search (rules, stands_at, fits_next)
 
 -- one call more
 pub cursor_then : {R : Type 0} {r : Reels R} {c n k : CursorView R} {d e f : DeskView} → KeepsCursor r c n d e
     → KeepsCursor r n k e f → KeepsCursor r c k d f
-cursor_then {r = r} {c = c} {n = n} {d = d} {e = e} {f = f} p q = record {
-  side = q.side ∙ p.side;
-  limits = q.limits ∙ p.limits;
-  stands = λ text stands. q.stands text (p.stands text stands);
-  room = q.room ∙ p.room;
-  fits = fits_on r.to_come c n d e f p.side p.limits p.stands p.fits q.fits;
-}
+cursor_then {r = r} {c = c} {n = n} {d = d} {e = e} {f = f} p q = search (rules, fits_on)
 
 -- the side has another name
 pub advanced_at : {R : Type 0} {r : Reels R} {side other : Side} {c n : CursorView R} {d e : DeskView} {before after : NextEntry} → side
@@ -70,12 +51,7 @@ advanced_at {r = r} {c = c} {n = n} {d = d} {e = e} {before = before} {after = a
 
 -- no call
 pub merge_none : {R : Type 0} (r : Reels R) (m : Merge R) (d : DeskView) → KeepsMerge r m m d d
-merge_none r m d = record {
-  limits = λ side. refl;
-  stands = λ side text stands. stands;
-  room = refl;
-  fits = λ old_line new_line before within_old within_new fits. fits;
-}
+merge_none r m d = search (rules)
 
 -- one call more
 pub merge_then : {R : Type 0} {r : Reels R} {m n k : Merge R} {d e f : DeskView} → KeepsMerge r m n d e
@@ -90,12 +66,7 @@ merge_then {r = r} {m = m} {n = n} {d = d} {e = e} {f = f} p q = record {
 -- a fault of a call after others
 pub merge_fault : {R : Type 0} {r : Reels R} {m n k : Merge R} {d e : DeskView} {fault : DbFault} → KeepsMerge r m n d e
     → IsMergeFault r n k e fault → IsMergeFault r m k d fault
-merge_fault {m = m} {n = n} {d = d} {e = e} {fault = fault} p is = record {
-  first = λ text s. subst (λ (limits : Limits). IsFaultOf limits text fault) (p.limits fault.side)
-      (is.first text (p.stands fault.side text s));
-  read = is.read;
-  memory = λ le. is.memory (λ side. still_fits (limits_at m side) (limits_at n side) d.room e.room (p.limits side) p.room (le side));
-}
+merge_fault {m = m} {n = n} {d = d} {e = e} {fault = fault} p is = search (rules, still_fits)
 
 -- ---- a call of the old side's cursor, and then one of the new side's
 
@@ -107,26 +78,12 @@ limits_both m n old new New = new
 pub both_keep : {R : Type 0} (r : Reels R) (m n : Merge R) (d middle e : DeskView) → m.old_cursor.side ≡ Old → m.new_cursor.side ≡ New
     → IsKept New d middle → IsKept Old middle e → KeepsCursor r m.old_cursor n.old_cursor d middle
     → KeepsCursor r m.new_cursor n.new_cursor middle e → KeepsMerge r m n d e
-both_keep r m n d middle e is_old is_new kept_new kept_old old new = record {
-  limits = limits_both m n old.limits new.limits;
-  stands = of_sides (StandsAt r.to_come m d) (StandsAt r.to_come n e)
-      (λ text s. stands_across r.to_come n.old_cursor Old middle e text (old.side ∙ is_old) kept_old (old.stands text s))
-      (λ text s. new.stands text (stands_across r.to_come m.new_cursor New d middle text is_new kept_new s));
-  room = new.room ∙ old.room;
-  fits = fits_both r.to_come m d middle e is_old is_new kept_new old.fits new.fits;
-}
+both_keep r m n d middle e is_old is_new kept_new kept_old old new = search (rules, limits_both, of_sides, stands_across, fits_both)
 
 -- both cursors are as before
 pub passed_on : {R : Type 0} (r : Reels R) (m : Merge R) (d : DeskView) (old_next new_next : NextEntry)
     → KeepsMerge r m (record m { old_next = old_next; new_next = new_next }) d d
-passed_on r m d old_next new_next =
-    let n = record m { old_next = old_next; new_next = new_next } in
-    record {
-      limits = limits_both m n refl refl;
-      stands = of_sides (StandsAt r.to_come m d) (StandsAt r.to_come n d) (λ text stands. stands) (λ text stands. stands);
-      room = refl;
-      fits = λ old_line new_line before within_old within_new fits. fits;
-    }
+passed_on r m d old_next new_next = assumption
 
 -- a fault of the old side's cursor
 pub old_fault : {R : Type 0} (r : Reels R) (m n : Merge R) (d : DeskView) (fault : DbFault) → m.old_cursor.side ≡ Old

@@ -1,4 +1,5 @@
 -- The columns of a merge's cursors, once their first entries have been read.
+use Rattle.std.proofs.Common.{rules}
 use Rattle.std.specs.Prelude.{◌≡◌, ◌≢◌, ◌⊎◌, ℕ, List, [], ◌∷◌, take, Option, IsSome}
 use Rattle.std.proofs.Common.{inl, inr, refl, subst, sym}
 use Rattle.aide_db.specs.Answer.{Stands, StandsAtStage, StandsIn}
@@ -13,7 +14,7 @@ use Rattle.aide_db.specs.Told.{bytes_of}
 use Rattle.aide_db.specs.declared.side.Side.{Side}
 use Rattle.aide_db.specs.declared.side.Side.TheVariants.{Old, New}
 use Rattle.aide_db.specs.declared.stage.Stage.{Stage}
-use Rattle.aide_db.specs.declared.stage.Stage.TheVariants.{Start, Begun, Entries, Ended, Failed}
+use Rattle.aide_db.specs.declared.stage.Stage.TheVariants.{Entries, Ended, Failed}
 use Rattle.aide_db.proofs.Giving.{columns_at, lines_after}
 use Rattle.aide_entry.specs.Text.{lines}
 use Rattle.aide_entry.specs.View.{entry_at}
@@ -34,20 +35,13 @@ stage_columns : {R : Type 0} (stage : Stage) (bytes : R → List ℕ) (c : Curso
     (text : List ℕ) → c.stage ≡ stage → IsUnfailed stage → HoldsAt stage c.columns list held
     → IsSome (entry_at held list) ⊎ (stage ≡ Ended)
     → StandsAtStage stage bytes c list text → c.columns ≡ columns_of_text text
-stage_columns Start bytes c list held text is unfailed holds there s = elim there [
-  | inl entry ↦ absurd (none_at held list holds entry)
-  | inr ended ↦ cc
-]
-stage_columns Begun bytes c list held text is unfailed holds there s = elim there [
-  | inl entry ↦ absurd (none_at held list holds entry)
-  | inr ended ↦ cc
-]
 stage_columns Entries bytes c list held text is unfailed holds there s =
     let w = lines_after c.at_end c.used (to_use bytes c) text s.parts s.ended s.whole in
     columns_at c.used text w.0 c.columns list s.is_open.no_end w.1
     (subst (λ (at : Stage). IsStageOf at c.columns list (counted (lines (take c.used text)))) is s.staged)
 stage_columns Ended bytes c list held text is unfailed holds there s = s.2
 stage_columns (Failed fault) bytes c list held text is unfailed holds there s = absurd unfailed
+stage_columns _ bytes c list held text is unfailed holds there s = search (rules, none_at)
 
 -- a side that is not due has an entry on the desk, or has ended
 here_or_ended : (there : Type 0) (stage : Stage) (next : NextEntry) → next ≢ Due → (next ≡ Here → there) → (next ≡ AtEnd → stage ≡ Ended)

@@ -6,7 +6,7 @@ use Rattle.aide_db.specs.declared.side.Side.TheVariants.{Old, New}
 use Rattle.aide_merge.specs.RunFaults.{IsFirst, IsRight}
 use Rattle.aide_text.specs.Failures.{Rose}
 use Rattle.aide_merge.specs.declared.run_fault.RunFault.{RunFault}
-use Rattle.aide_merge.specs.declared.run_fault.RunFault.TheVariants.{Open, Database, Changed, Write}
+use Rattle.aide_merge.specs.declared.run_fault.RunFault.TheVariants.{Open, Database}
 use Rattle.aide_db.specs.Count.{one_more, sum_of}
 use Rattle.aide_db.specs.Side.{by_side}
 use Rattle.aide_merge.specs.Openings.{IsRefusedIn, IsRefusedThere}
@@ -22,8 +22,7 @@ pub right_first : (limits : Limits) (bytes_of : Side → Option (List ℕ)) (sid
     → IsFirst limits bytes_of side fault → IsRight limits bytes_of fault
 right_first limits bytes_of side (Open opened) first = tt
 right_first limits bytes_of side (Database fault) first = λ text told. first.1 text (ap bytes_of (sym first.0) ∙ told)
-right_first limits bytes_of side (Changed changed) first = absurd first
-right_first limits bytes_of side (Write written) first = absurd first
+right_first limits bytes_of side _ first = absurd first
 
 -- the old side is refused where it was opened once more, the new one where both were
 pub refused_first : (limits : Limits) (bytes_of : Side → Option (List ℕ)) (side : Side) (before after : Side → ℕ) (fault : RunFault)
@@ -34,5 +33,4 @@ refused_first limits bytes_of Old before after (Open side) of_old of_new is =
 refused_first limits bytes_of New before after (Open side) of_old of_new is =
     subst (IsRefusedIn before after) (sym is) (record { passes = 0; of_old = of_old; of_new = of_new })
 refused_first limits bytes_of side before after (Database fault) of_old of_new is = tt
-refused_first limits bytes_of side before after (Changed changed) of_old of_new is = tt
-refused_first limits bytes_of side before after (Write written) of_old of_new is = tt
+refused_first limits bytes_of side before after _ of_old of_new is = tt

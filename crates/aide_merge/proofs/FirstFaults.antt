@@ -1,5 +1,6 @@
 -- A text has one first fault, and a run one right answer.
-use Rattle.std.specs.Prelude.{◌≡◌, ℕ, ◌+◌, ◌⊎◌, true, false, Some, Result, Ok, Err, List, [], ◌∷◌, ◌++◌, length, nat_le}
+use Rattle.std.proofs.Common.{rules}
+use Rattle.std.specs.Prelude.{◌≡◌, ℕ, ◌+◌, ◌⊎◌, true, Some, Result, Ok, Err, List, [], ◌∷◌, ◌++◌, length, nat_le}
 use Rattle.std.proofs.Common.{refl, sym, ap, subst, ◌∙◌, inl, inr, append_assoc}
 use Rattle.aide_db.specs.Database.{IsFront, IsAtLine, IsFirstFault, fault_of, whole_lines}
 use Rattle.aide_entry.specs.Text.{lines}
@@ -10,6 +11,7 @@ use Rattle.aide_db.specs.declared.side.Side.{Side}
 use Rattle.aide_db.specs.declared.side.Side.TheVariants.{Old, New}
 use Rattle.aide_db.proofs.MapLaws.{first_fault_unsound}
 use Rattle.aide_merge.specs.RightAnswer.{Report, RunsBy, IsFirstFaultOf}
+use Rattle.aide_merge.proofs.AnswerLemmas.{true_false}
 
 -- two cuts of a list at an element are one, or the first ends in the front of the second, or the other way round
 record SameCut {X : Type 0} (xs : List X) (x : X) (zs : List X) (z : X) : Type 0 where
@@ -31,13 +33,7 @@ tail_of x z xs zs e = cc
 
 cut_later : {X : Type 0} (y : X) (xs : List X) (x : X) (zs : List X) (z : X) → Cuts xs x zs z
     → Cuts (y ∷ xs) x (y ∷ zs) z
-cut_later y xs x zs z c = elim c [
-  | inl same ↦ inl (record { fronts = ap (λ l. y ∷ l) same.fronts; elements = same.elements })
-  | inr other ↦ inr (elim other [
-    | inl before ↦ inl (record { more = before.more; longer = ap (λ l. y ∷ l) before.longer })
-    | inr after ↦ inr (record { more = after.more; longer = ap (λ l. y ∷ l) after.longer })
-  ])
-]
+cut_later y xs x zs z c = search (rules)
 
 cuts : {X : Type 0} (xs : List X) (x : X) (ys : List X) (zs : List X) (z : X) (ws : List X)
     → xs ++ x ∷ ys ≡ zs ++ z ∷ ws → Cuts xs x zs z
@@ -52,12 +48,7 @@ cuts (v ∷ xs) x ys (u ∷ zs) z ws e =
 
 -- the first lines of what begins a database begin one
 front_of : (limit : ℕ) (first more all : List (List ℕ)) → all ≡ first ++ more → IsFront limit all → IsFront limit first
-front_of limit first more all is f = record {
-  text = f.text;
-  more = more ++ f.more;
-  goes_on = f.goes_on ∙ ap (λ ls. ls ++ f.more) is ∙ append_assoc first more f.more;
-  database = f.database;
-}
+front_of limit first more all is f = search (rules, append_assoc)
 
 some_same : {X : Type 0} (x y : X) → Some x ≡ Some y → x ≡ y
 some_same x y e = cc
@@ -88,9 +79,6 @@ whole_is : (limits : Limits) (text : List ℕ) → nat_le (length text) limits.b
     → whole_lines limits text ≡ lines text
 unfolding whole_lines
 whole_is limits text e = rw e refl
-
-true_false : true ≡ false → ⊥
-true_false e = cc
 
 one_fault : (limits : Limits) (text : List ℕ) (m : ℕ) (j : DbFaultKind) (n : ℕ) (k : DbFaultKind)
     → IsFirstFault limits text m j → IsFirstFault limits text n k → Same m j n k

@@ -35,16 +35,14 @@ and_second false b p = absurd p
 
 pub lt_less : (o : Ordering) → T (is_lt o) → o ≡ Less
 lt_less Less p = refl
-lt_less Equal p = absurd p
-lt_less Greater p = absurd p
+lt_less _ p = absurd p
 
 less_lt : (o : Ordering) → o ≡ Less → T (is_lt o)
 less_lt o e = subst (λ r. T (is_lt r)) (sym e) tt
 
 eq_equal : (r : Ordering) → is_eq r ≡ true → r ≡ Equal
-eq_equal Less p = cc
 eq_equal Equal p = refl
-eq_equal Greater p = cc
+eq_equal _ p = cc
 
 turned : {K : Type 0} (R : K → K → Ordering) → IsTotalOrder R → (x y : K) → R x y ≡ Greater → R y x ≡ Less
 turned R o x y p = o.antisymm y x ∙ ap ordering_reverse p

@@ -9,9 +9,10 @@ use Rattle.aide_text.specs.Sent.{SendsPart, IsCounted}
 use Rattle.aide_text.specs.Sheet.{Sheet, Wrote, WroteBy, WritesSome}
 use Rattle.aide_text.specs.declared.pen.Pen.{Pen}
 use Rattle.aide_merge.specs.declared.run_fault.RunFault.{RunFault}
-use Rattle.aide_merge.specs.declared.run_fault.RunFault.TheVariants.{Open, Database, Changed, Write}
+use Rattle.aide_merge.specs.declared.run_fault.RunFault.TheVariants.{Changed, Write}
 use Rattle.aide_text.proofs.Sending.{Appends-Keeps}
 use Rattle.aide_text.proofs.Sheets.{from_fresh, wrote_whole}
+use Rattle.aide_merge.proofs.AnswerLemmas.{true_false}
 
 -- ---- after a flush
 
@@ -56,25 +57,19 @@ count_of_pen {a} {b} fresh start p =
 
 pub written_of_pen : (pen : Pen) (before after : Option (List ℕ)) (fault : RunFault) → IsCounted before after 0 pen.sent
     → HasPenWritten pen fault → HasWrittenIfAny before after fault
-written_of_pen pen before after (Open side) is counts = tt
-written_of_pen pen before after (Database fault) is counts = tt
-written_of_pen pen before after (Changed side) is counts = tt
 written_of_pen pen before after (Write written) is counts = subst (λ n. IsCounted before after 0 n) (sym counts.1) is
+written_of_pen pen before after _ is counts = tt
 
 pub rose_of_pen : {a b : Sheet} → a.failed ≡ false → WritesSome a b → b.failed ≡ true → Rose a.failures b.failures
 rose_of_pen {a} {b} fresh p failed below = let e = (from_fresh fresh p).4 failed in omega (arith, e)
 
 pub caused_as : (sources first second : Type 0) (fault : RunFault) → (first → second) → IsCaused sources first fault
     → IsCaused sources second fault
-caused_as sources first second (Open side) f p = p
-caused_as sources first second (Database fault) f p = p
 caused_as sources first second (Changed side) f p = tt
 caused_as sources first second (Write written) f p = f p
+caused_as sources first second _ f p = p
 
 -- ---- how often the sink has failed
-
-true_false : true ≡ false → ⊥
-true_false e = cc
 
 unfailed_by : (text : List ℕ) (a b : Sheet) (f h : Bool) → f ≡ false → h ≡ false → WroteBy f h text a b
     → b.failures ≡ a.failures
@@ -89,18 +84,14 @@ unfailed {a} {b} fresh on p = unfailed_by p.text a b a.failed b.failed fresh on 
 -- a fault of writing comes with the one failure that the pen has met, and any other with none
 pub counts_of_pen : {a b : Sheet} (pen : Pen) (fault : RunFault) → b.failed ≡ pen.failed → a.failed ≡ false
     → WritesSome a b → HasPenWritten pen fault → CountsWriteFault a.failures b.failures fault
-counts_of_pen pen (Open side) is fresh p on = unfailed fresh (is ∙ on) p
-counts_of_pen pen (Database fault) is fresh p on = unfailed fresh (is ∙ on) p
-counts_of_pen pen (Changed side) is fresh p on = unfailed fresh (is ∙ on) p
 counts_of_pen pen (Write written) is fresh p wrote = (from_fresh fresh p).4 (is ∙ wrote.0)
+counts_of_pen pen _ is fresh p on = unfailed fresh (is ∙ on) p
 
 -- before anything is written no fault is one of writing
 pub counts_nothing : (sources : Type 0) (n : ℕ) (fault : RunFault) → IsCaused sources ⊥ fault
     → CountsWriteFault n n fault
-counts_nothing sources n (Open side) p = refl
-counts_nothing sources n (Database fault) p = refl
-counts_nothing sources n (Changed side) p = refl
 counts_nothing sources n (Write written) p = absurd p
+counts_nothing sources n _ p = refl
 
 -- no flush
 pub unflushed : {a b : Sheet} → WritesSome a b → b.flushes ≡ a.flushes

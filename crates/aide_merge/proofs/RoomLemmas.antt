@@ -5,7 +5,7 @@ use Rattle.aide_db.specs.Memory.{wanted_memory}
 use Rattle.aide_db.specs.declared.fault.DbFault.{DbFault}
 use Rattle.aide_db.specs.declared.limits.Limits.{Limits}
 use Rattle.aide_db.specs.declared.stage.Stage.{Stage}
-use Rattle.aide_db.specs.declared.stage.Stage.TheVariants.{Start, Begun, Entries, Ended, Failed}
+use Rattle.aide_db.specs.declared.stage.Stage.TheVariants.{Failed}
 use Rattle.aide_merge.specs.Standing.{IsUnfailed}
 use Rattle.aide_merge.specs.Room.{IsNotMemory}
 
@@ -16,11 +16,8 @@ not_true true h = sym (h refl)
 -- a cursor that has not failed wants no memory
 pub not_memory : (stage : Stage) (fault : DbFault) → IsUnfailed stage
     → (is_memory fault.kind ≡ true → wanted_memory stage ≡ true) → IsNotMemory fault
-not_memory Start fault unfailed h = not_true (is_memory fault.kind) h
-not_memory Begun fault unfailed h = not_true (is_memory fault.kind) h
-not_memory Entries fault unfailed h = not_true (is_memory fault.kind) h
-not_memory Ended fault unfailed h = not_true (is_memory fault.kind) h
 not_memory (Failed failure) fault unfailed h = absurd unfailed
+not_memory _ fault unfailed h = not_true (is_memory fault.kind) h
 
 -- the limits and the room are what they were
 pub still_fits : (a b : Limits) (m n : ℕ) → b ≡ a → n ≡ m → a.line ≤ m → b.line ≤ n

@@ -40,8 +40,7 @@ both_here : (d e : Entry) (olds news : List Entry) (r : Ordering) →
     ] ≡ (change_by r d e ∷ []) ++ merged path_cmp (ahead (old_after (change_by r d e ∷ []) Here) (Some d) olds)
     (ahead (new_after (change_by r d e ∷ []) Here) (Some e) news)
 both_here d e olds news Less = refl
-both_here d e olds news Equal = refl
-both_here d e olds news Greater = refl
+both_here d e olds news _ = refl
 
 -- what is left of a merge is the change at the next path, and what is left after it
 pub merged_step : (old_next new_next : NextEntry) (old new : Option Entry) (olds news : List Entry)
@@ -66,8 +65,7 @@ merged_step Here Here (Some d) (Some e) olds news p q f g = both_here d e olds n
 falls_at : (d e : Entry) (r : Ordering) (m n : ℕ)
     → work (old_after (change_by r d e ∷ []) Here) m + work (new_after (change_by r d e ∷ []) Here) n < work Here m + work Here n
 falls_at d e Less m n = omega arith
-falls_at d e Equal m n = omega arith
-falls_at d e Greater m n = omega arith
+falls_at d e _ m n = omega arith
 
 pub step_falls : (old_next new_next : NextEntry) (old new : Option Entry) (m n : ℕ)
     → (old_next ≢ Due) → (new_next ≢ Due) → (next_change (next_entry old_next old) (next_entry new_next new) ≢ [])
@@ -112,9 +110,8 @@ some_change End changes is going none = going refl
 
 pub no_change : (path : AtPath) (changes : List (Change (List ℕ) Attributes)) → ShowsPath path changes
     → path ≡ End → changes ≡ []
-no_change Alike changes is at_end = cc
-no_change (Differs change) changes is at_end = cc
 no_change End changes is at_end = is
+no_change _ changes is at_end = cc
 
 -- where no change is left both sides have ended
 pub ended_at : (old_next new_next : NextEntry) (old new : Option Entry)

@@ -1,7 +1,5 @@
-use Rattle.std.proofs.Common.{◌∙◌, rules}
+use Rattle.std.proofs.Common.{rules}
 use Rattle.aide_db.proofs.FaultLaws.{inside_to}
-use Rattle.aide_db.specs.Desk.{list_of, columns_of_side}
-use Rattle.aide_db.specs.Giving.{columns_of_text, still_to_give}
 use Rattle.aide_merge.proofs.CallLemmas.{cursor_next}
 use Rattle.aide_merge.proofs.StandingLemmas.{given_entry, shown_entry, unfailed_entries}
 use Rattle.aide_merge.proofs.RoomLemmas.{not_memory}
@@ -12,35 +10,14 @@ returns-in-Ok-Record-clause-keeps g c =
     let next = c.in-Ok-Record.ensures in cursor_next next.text next.outcome next.cursor next.desk
 
 pub returns-in-Ok-Record-clause-advanced : goal.returns-in-Ok-Record-clause-advanced
-returns-in-Ok-Record-clause-advanced g c =
-    let own = rw c.in-Ok-Record.field-0-is at c.in-Ok-Record.ensures.outcome.own in
-    record {
-      unfailed = let stage = rw c.in-Ok-Record.field-0-is at c.in-Ok-Record.ensures.outcome.stage in
-          unfailed_entries c.next.new.self.stage stage;
-      not_due = search rules;
-      here = λ held here. shown_entry (columns_of_side c.args.cursor.now.side c.next.new.desk)
-          (list_of c.args.cursor.now.side c.next.new.desk) own.filled;
-      ended = search rules;
-      falls = search rules;
-      same_ahead = λ text stands. let answer = rw c.in-Ok-Record.field-0-is at (c.in-Ok-Record.ensures.text text stands).answers in
-          rw c.in-Due.is (given_entry (columns_of_side c.args.cursor.now.side c.next.new.desk) (columns_of_text text)
-          (list_of c.args.cursor.now.side c.next.new.desk)
-          (still_to_give c.args.cursor.now text) (still_to_give c.next.new.self text) own.filled (own.under ∙ answer.1) answer.0);
-    }
+returns-in-Ok-Record-clause-advanced g c = search (rules, unfailed_entries, shown_entry, given_entry)
 
 pub returns-in-Ok-End-clause-keeps : goal.returns-in-Ok-End-clause-keeps
 returns-in-Ok-End-clause-keeps g c =
     let next = c.in-Ok-End.ensures in cursor_next next.text next.outcome next.cursor next.desk
 
 pub returns-in-Ok-End-clause-advanced : goal.returns-in-Ok-End-clause-advanced
-returns-in-Ok-End-clause-advanced g c = record {
-  unfailed = search rules;
-  not_due = search rules;
-  here = search rules;
-  ended = search rules;
-  falls = search rules;
-  same_ahead = search rules;
-}
+returns-in-Ok-End-clause-advanced g c = search (rules)
 
 pub returns-in-Err-clause-keeps : goal.returns-in-Err-clause-keeps
 returns-in-Err-clause-keeps g c =

@@ -1,13 +1,11 @@
+use Rattle.std.proofs.Common.{rules}
 use Rattle.aide_entry.specs.View.{entry_in}
 use Rattle.aide_merge.specs.code.ChangeView.{change_of}
 use Rattle.aide_merge.proofs.AlikeLemmas.{next_of_alike, next_of_both}
 use Rattle.aide_merge.proofs.merge.at_path.Goals as goal
 
 pub returns-then-is_alike : goal.returns-then-is_alike
-returns-then-is_alike g c =
-    next_of_alike c.args.desk.now c.args.old_next c.args.new_next (entry_in c.in-Some-Some.old) (entry_in c.in-Some-Some.new)
-    (c.is_alike.ensures.only c.if-is_alike.true) (rw c.in-Some-Some.is-0 at c.next_view-old.ensures)
-    (rw c.in-Some-Some.is-1 at c.next_view-new.ensures)
+returns-then-is_alike g c = search (rules, next_of_alike)
 
 pub returns-else-is_alike : goal.returns-else-is_alike
 returns-else-is_alike g c =
