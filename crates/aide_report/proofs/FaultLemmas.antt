@@ -12,14 +12,14 @@ use Rattle.aide_db.specs.declared.side.Side.{Side}
 use Rattle.aide_db.specs.declared.side.Side.TheVariants.{Old, New}
 use Rattle.aide_db.proofs.MapLaws.{first_fault_unsound}
 use Rattle.aide_report.specs.code.LaterFault.{later_by, later_of}
-use Rattle.aide_merge.specs.RightAnswer.{IsOfReliable, Report, RunsBy, Causes, HasCause}
+use Rattle.aide_merge.specs.RightAnswer.{Report, RunsBy, Causes, HasCause}
 use Rattle.aide_merge.specs.Openings.{OpensFirst, opened_first}
 use Rattle.aide_merge.specs.Standing.{IsFaultOf}
-use Rattle.aide_merge.specs.RunFaults.{IsCaused, IsFirst, IsLater, IsRight, HasPenWritten}
-use Rattle.aide_text.specs.declared.pen.Pen.{Pen}
+use Rattle.aide_merge.specs.RunFaults.{IsCaused, IsFirst, IsLater, IsRight}
 use Rattle.aide_report.specs.Runs.{IsRunFault}
 use Rattle.aide_merge.specs.declared.run_fault.RunFault.{RunFault}
 use Rattle.aide_merge.specs.declared.run_fault.RunFault.TheVariants.{Open, Database, Changed, Write}
+use Rattle.aide_merge.proofs.AnswerLemmas.{true_false}
 use Rattle.aide_merge.proofs.FirstFaults.{RunsBy-unique}
 
 abbrev pub HasFault : Limits → (Side → Option (List ℕ)) → DbFault → Type 0
@@ -32,28 +32,22 @@ changed_later limits bytes_of fault first inside text told sound =
 
 later_at : (limits : Limits) (bytes_of : Side → Option (List ℕ)) (fault : DbFault) → HasFault limits bytes_of fault
     → (cause : Cause) → cause_of fault.kind ≡ cause → IsLater limits bytes_of (later_by cause fault)
-later_at limits bytes_of fault first in_text is = changed_later limits bytes_of fault first (ap from_outside is)
-later_at limits bytes_of fault first in_length is = changed_later limits bytes_of fault first (ap from_outside is)
 later_at limits bytes_of fault first in_memory is = ap from_outside is
 later_at limits bytes_of fault first in_device is = ap from_outside is
+later_at limits bytes_of fault first _ is = changed_later limits bytes_of fault first (ap from_outside is)
 
 -- a fault of the text after the first readings shows that its side is not sound
 pub later_fault : (limits : Limits) (bytes_of : Side → Option (List ℕ)) (fault : DbFault)
     → HasFault limits bytes_of fault → IsLater limits bytes_of (later_of fault)
 later_fault limits bytes_of fault first = later_at limits bytes_of fault first (cause_of fault.kind) refl
 
-true_false : true ≡ false → ⊥
-true_false e = cc
-
 -- of sides that are sound, a later fault is right
-pub right_later : (limits : Limits) (before after : Side → Option (List ℕ)) → after ≡ before
-    → ((side : Side) (text : List ℕ) → before side ≡ Some text → IsSound limits text)
-    → (fault : RunFault) → IsLater limits after fault → IsRight limits before fault
-right_later limits before after same sound (Open side) later = tt
-right_later limits before after same sound (Database fault) later = λ text told inside. absurd (true_false (sym later ∙ inside))
-right_later limits before after same sound (Changed side) later = λ text told. later text (ap (λ bytes. bytes side) same ∙ told)
-    (sound side text told)
-right_later limits before after same sound (Write written) later = tt
+pub right_later : (limits : Limits) (bytes_of : Side → Option (List ℕ))
+    → ((side : Side) (text : List ℕ) → bytes_of side ≡ Some text → IsSound limits text)
+    → (fault : RunFault) → IsLater limits bytes_of fault → IsRight limits bytes_of fault
+right_later limits bytes_of sound (Database fault) later = λ text told inside. absurd (true_false (sym later ∙ inside))
+right_later limits bytes_of sound (Changed side) later = λ text told. later text told (sound side text told)
+right_later limits bytes_of sound _ later = tt
 
 causes_of : (rose first : Type 0) (kind : DbFaultKind) → (kind ≡ Read → rose) → (is_outside kind ≡ false → first)
     → Causes kind rose first
@@ -69,36 +63,24 @@ pub cause_by : (limits : Limits) (task : Asked) (over : List ℕ → List ℕ �
     (λ first. (old new : List ℕ) → bytes_of Old ≡ Some old → bytes_of New ≡ Some new → (r : Result Report DbFault)
     → RunsBy limits over old new r → r ≡ Err first)
     (λ side. (text : List ℕ) → bytes_of side ≡ Some text → ⊥)
-cause_by limits task over bytes_of sources sink (Open side) caused answer right = caused
 cause_by limits task over bytes_of sources sink (Database fault) caused answer right =
     causes_of sources _ fault.kind caused
     (λ inside old new told_old told_new r runs. RunsBy-unique limits over old new r (Err fault) runs
     (answer old new told_old told_new inside))
 cause_by limits task over bytes_of sources sink (Changed side) caused answer right = right
-cause_by limits task over bytes_of sources sink (Write written) caused answer right = caused
+cause_by limits task over bytes_of sources sink _ caused answer right = caused
 
 -- ---- the end of a pass
 
-pub caused_at : (sources sink : Type 0) (fault : DbFault) → (fault.kind ≡ Read → sources) → (cause : Cause)
-    → IsCaused sources sink (later_by cause fault)
-caused_at sources sink fault read in_text = tt
-caused_at sources sink fault read in_length = tt
-caused_at sources sink fault read in_memory = read
-caused_at sources sink fault read in_device = read
+-- what holds of a changed side and of the fault itself holds of the answer to the fault
+later_case : (P : RunFault → Type 0) (fault : DbFault) (cause : Cause) → P (Changed fault.side) → P (Database fault)
+    → P (later_by cause fault)
+later_case P fault in_text changed same = changed
+later_case P fault in_length changed same = changed
+later_case P fault _ changed same = same
 
-pub reliable_at : (bytes_of : Side → Option (List ℕ)) (fault : DbFault) → (fault.kind ≡ Read → ⊥) → (cause : Cause)
-    → IsOfReliable bytes_of (later_by cause fault)
-reliable_at bytes_of fault unread in_text = tt
-reliable_at bytes_of fault unread in_length = tt
-reliable_at bytes_of fault unread in_memory = unread
-reliable_at bytes_of fault unread in_device = unread
-
-pub written_at : (pen : Pen) (fault : DbFault) (cause : Cause) → pen.failed ≡ false
-    → HasPenWritten pen (later_by cause fault)
-written_at pen fault in_text unfailed = unfailed
-written_at pen fault in_length unfailed = unfailed
-written_at pen fault in_memory unfailed = unfailed
-written_at pen fault in_device unfailed = unfailed
+pub later_is : (P : RunFault → Type 0) (fault : DbFault) → P (Changed fault.side) → P (Database fault) → P (later_of fault)
+later_is P fault = later_case P fault (cause_of fault.kind)
 
 -- ---- a fault of the first reading of a side
 
@@ -106,8 +88,7 @@ pub answer_old : (limits : Limits) (task : Asked) (bytes_of : Side → Option (L
     → IsFirst limits bytes_of Old fault → IsRunFault limits task bytes_of fault
 answer_old limits task bytes_of (Open opened) first = tt
 answer_old limits task bytes_of (Database fault) first = λ old new told_old told_new inside. inl (first.0, first.1 old told_old inside)
-answer_old limits task bytes_of (Changed changed) first = absurd first
-answer_old limits task bytes_of (Write written) first = absurd first
+answer_old limits task bytes_of _ first = absurd first
 
 -- of the new side, behind an old one that is sound
 pub answer_new : (limits : Limits) (task : Asked) (bytes_of : Side → Option (List ℕ)) (fault : RunFault)
@@ -116,32 +97,25 @@ pub answer_new : (limits : Limits) (task : Asked) (bytes_of : Side → Option (L
 answer_new limits task bytes_of (Open opened) sound first = tt
 answer_new limits task bytes_of (Database fault) sound first = λ old new told_old told_new inside. inr
     (sound old told_old, (first.0, first.1 new told_new inside))
-answer_new limits task bytes_of (Changed changed) sound first = absurd first
-answer_new limits task bytes_of (Write written) sound first = absurd first
+answer_new limits task bytes_of _ sound first = absurd first
 
 pub opens_first : (limits : Limits) (bytes_of : Side → Option (List ℕ)) (side : Side) (before after : Side → ℕ) (fault : RunFault)
     → opened_first before after side → IsFirst limits bytes_of side fault → OpensFirst before after fault
-opens_first limits bytes_of side before after (Open opened) opens first = tt
 opens_first limits bytes_of side before after (Database fault) opens first = λ inside. subst (opened_first before after) (sym first.0) opens
-opens_first limits bytes_of side before after (Changed changed) opens first = tt
-opens_first limits bytes_of side before after (Write written) opens first = tt
+opens_first limits bytes_of side before after _ opens first = tt
 
 -- ---- a fault after the first readings is no fault of a text
 
-pub answer_later : (limits : Limits) (task : Asked) (bytes_of : Side → Option (List ℕ)) (given : Side → Option (List ℕ)) (fault : RunFault)
-    → IsLater limits given fault → IsRunFault limits task bytes_of fault
-answer_later limits task bytes_of given (Open side) later = tt
-answer_later limits task bytes_of given (Database fault) later = λ old new told_old told_new inside. absurd
+pub answer_later : (limits : Limits) (task : Asked) (bytes_of : Side → Option (List ℕ)) (fault : RunFault)
+    → IsLater limits bytes_of fault → IsRunFault limits task bytes_of fault
+answer_later limits task bytes_of (Database fault) later = λ old new told_old told_new inside. absurd
     (true_false (sym later ∙ inside))
-answer_later limits task bytes_of given (Changed side) later = tt
-answer_later limits task bytes_of given (Write written) later = tt
+answer_later limits task bytes_of _ later = tt
 
-pub first_later : (limits : Limits) (given : Side → Option (List ℕ)) (before after : Side → ℕ) (fault : RunFault)
-    → IsLater limits given fault → OpensFirst before after fault
-first_later limits given before after (Open side) later = tt
-first_later limits given before after (Database fault) later = λ inside. absurd (true_false (sym later ∙ inside))
-first_later limits given before after (Changed side) later = tt
-first_later limits given before after (Write written) later = tt
+pub first_later : (limits : Limits) (bytes_of : Side → Option (List ℕ)) (before after : Side → ℕ) (fault : RunFault)
+    → IsLater limits bytes_of fault → OpensFirst before after fault
+first_later limits bytes_of before after (Database fault) later = λ inside. absurd (true_false (sym later ∙ inside))
+first_later limits bytes_of before after _ later = tt
 
 pub rose_later : (first second sink : Type 0) (fault : RunFault) → (first → second) → IsCaused first sink fault
     → IsCaused second sink fault

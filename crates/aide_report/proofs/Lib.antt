@@ -13,7 +13,6 @@ pub mod FlushLemmas
 pub mod FaultLemmas
 pub mod OpeningLemmas
 pub mod GivenLemmas
-pub mod RoomLemmas
 pub mod AgreementLemmas
 pub mod MissingLemmas
 pub mod PassLemmas

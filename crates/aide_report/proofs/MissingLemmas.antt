@@ -129,10 +129,7 @@ first_over limits wish bytes_of is_missing (Some old) new sources (Database faul
       | inr hinders ↦ stops_hindered r (IsHindered (Some old) new sources ⊥) (Database fault)
           (subst (λ (s : Side). IsSome (by_side (Some old) new s)) (sym first.0) refl, hinders)
     ]
-first_over limits wish bytes_of is_missing (Some old) new sources (Changed side) told first caused gone r runs =
-    absurd first
-first_over limits wish bytes_of is_missing (Some old) new sources (Write written) told first caused gone r runs =
-    absurd first
+first_over limits wish bytes_of is_missing (Some old) new sources _ told first caused gone r runs = absurd first
 
 -- the first reading of the new side, behind an old one that is sound
 pub second_over : (limits : Limits) (wish : Asked) (bytes_of : Side → Option (List ℕ)) (is_missing : Side → Bool)
@@ -158,11 +155,7 @@ second_over limits wish bytes_of is_missing (Some old) (Some new) sources
           (new_fault limits wish old new fault r (sound old told) bad runs)
       | inr hinders ↦ stops_hindered r (IsHindered (Some old) (Some new) sources ⊥) (Database fault) (there_at old new fault.side, hinders)
     ]
-second_over limits wish bytes_of is_missing (Some old) (Some new) sources
-    (Changed side) told told_new there sound first caused gone r runs =
-    absurd first
-second_over limits wish bytes_of is_missing (Some old) (Some new) sources
-    (Write written) told told_new there sound first caused gone r runs =
+second_over limits wish bytes_of is_missing (Some old) (Some new) sources _ told told_new there sound first caused gone r runs =
     absurd first
 
 -- any reading behind those, where both sides are there and sound
@@ -176,10 +169,8 @@ later_over limits bytes_of is_missing None new sources sink fault told told_new 
     absurd (true_false (sym told ∙ there Old))
 later_over limits bytes_of is_missing (Some old) None sources sink fault told told_new there sound later caused =
     absurd (true_false (sym told_new ∙ there New))
-later_over limits bytes_of is_missing (Some old) (Some new) sources sink (Open Old) told told_new there sound later caused =
-    (refl, caused)
-later_over limits bytes_of is_missing (Some old) (Some new) sources sink (Open New) told told_new there sound later caused =
-    (refl, caused)
+later_over limits bytes_of is_missing (Some old) (Some new) sources sink (Open side) told told_new there sound later caused =
+    (there_at old new side, caused)
 later_over limits bytes_of is_missing (Some old) (Some new) sources sink (Database fault) told told_new there sound later caused =
     (there_at old new fault.side, outside_hinders fault.kind sources caused later)
 later_over limits bytes_of is_missing (Some old) (Some new) sources sink (Changed Old) told told_new there sound later caused =

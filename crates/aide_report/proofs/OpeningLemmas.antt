@@ -2,12 +2,9 @@
 use Rattle.std.proofs.Common.{◌≡◌, ◌<◌, ◌≤◌, ◌-◌, ◌^◌, ℕ, ◌+◌, Bool, List, [], Option, arith}
 use Rattle.std.specs.Io.KnownBytes.{Appends}
 use Rattle.aide_db.specs.Count.{one_more, sum_of}
-use Rattle.aide_db.specs.declared.fault.DbFault.{DbFault}
-use Rattle.aide_entry.specs.Cause.{Cause, in_text, in_length, in_memory, in_device}
 use Rattle.aide_db.specs.declared.side.Side.{Side}
 use Rattle.aide_db.specs.declared.side.Side.TheVariants.{Old, New}
-use Rattle.aide_report.specs.code.LaterFault.{later_by}
-use Rattle.aide_merge.specs.Openings.{OpensExactly, WasOpened, ComesOpened, IsRefusedIn, IsRefusedThere, IsNotGiven}
+use Rattle.aide_merge.specs.Openings.{OpensExactly, WasOpened, ComesOpened, IsRefusedIn, IsRefusedThere}
 use Rattle.aide_merge.specs.RunFaults.{HasSentNothing}
 use Rattle.aide_merge.specs.declared.run_fault.RunFault.{RunFault}
 use Rattle.aide_merge.specs.declared.run_fault.RunFault.TheVariants.{Open, Database, Changed, Write}
@@ -30,23 +27,12 @@ refused_in New before middle after n opens is = record {
 pub refused_later : (before middle after : Side → ℕ) (n : ℕ) (fault : RunFault) → OpensExactly before middle n
     → IsRefusedThere middle after fault → IsRefusedThere before after fault
 refused_later before middle after n (Open side) opens is = refused_in side before middle after n opens is
-refused_later before middle after n (Database fault) opens is = tt
-refused_later before middle after n (Changed side) opens is = tt
-refused_later before middle after n (Write written) opens is = tt
-
-pub refused_by : (before after : Side → ℕ) (fault : DbFault) (cause : Cause)
-    → IsRefusedThere before after (later_by cause fault)
-refused_by before after fault in_text = tt
-refused_by before after fault in_length = tt
-refused_by before after fault in_memory = tt
-refused_by before after fault in_device = tt
+refused_later before middle after n _ opens is = tt
 
 -- the old side was opened
 pub comes_opened : (before after : ℕ) (fault : RunFault) → after ≡ one_more before → ComesOpened before after fault
-comes_opened before after (Open side) is = record { passes = 0; of_old = is }
-comes_opened before after (Database fault) is = record { passes = 0; of_old = is }
-comes_opened before after (Changed side) is = record { passes = 0; of_old = is }
 comes_opened before after (Write written) is = tt
+comes_opened before after _ is = record { passes = 0; of_old = is }
 
 was_opened : (before middle after n : ℕ) → middle ≡ sum_of before n → WasOpened middle after → WasOpened before after
 was_opened before middle after n is opened =
@@ -55,18 +41,14 @@ was_opened before middle after n is opened =
 -- the same after further passes
 pub comes_later : (before middle after n : ℕ) (fault : RunFault) → middle ≡ sum_of before n
     → ComesOpened middle after fault → ComesOpened before after fault
-comes_later before middle after n (Open side) is opened = was_opened before middle after n is opened
-comes_later before middle after n (Database fault) is opened = was_opened before middle after n is opened
-comes_later before middle after n (Changed side) is opened = was_opened before middle after n is opened
 comes_later before middle after n (Write written) is opened = tt
+comes_later before middle after n _ is opened = was_opened before middle after n is opened
 
 -- where nothing has gone out
 pub unsent_nothing : (before_it opened_old opened_new : ℕ) (bytes : Option (List ℕ)) (fault : RunFault)
     → HasSentNothing before_it opened_old opened_new bytes bytes fault
-unsent_nothing before_it opened_old opened_new bytes (Open side) = λ below few. Appends-nothing bytes
-unsent_nothing before_it opened_old opened_new bytes (Database fault) = λ below few. Appends-nothing bytes
-unsent_nothing before_it opened_old opened_new bytes (Changed side) = λ below few. Appends-nothing bytes
 unsent_nothing before_it opened_old opened_new bytes (Write written) = tt
+unsent_nothing before_it opened_old opened_new bytes _ = λ below few. Appends-nothing bytes
 
 unsent_opened : (before_it before middle after : ℕ) (old new : Option (List ℕ)) → middle ≡ sum_of before before_it
     → WasOpened middle after
@@ -78,18 +60,5 @@ unsent_opened before_it before middle after old new is opened below few =
 pub unsent_begun : (before_it before middle after : ℕ) (old new : Option (List ℕ)) (fault : RunFault)
     → middle ≡ sum_of before before_it
     → ComesOpened middle after fault → HasSentNothing before_it before after old new fault
-unsent_begun before_it before middle after old new (Open side) is opened =
-    unsent_opened before_it before middle after old new is opened
-unsent_begun before_it before middle after old new (Database fault) is opened =
-    unsent_opened before_it before middle after old new is opened
-unsent_begun before_it before middle after old new (Changed side) is opened =
-    unsent_opened before_it before middle after old new is opened
 unsent_begun before_it before middle after old new (Write written) is opened = tt
-
--- a fault of a reading is not that of an opening
-pub not_given_by : (was_given : Side → Bool) (fault : DbFault) (cause : Cause)
-    → IsNotGiven was_given (later_by cause fault)
-not_given_by was_given fault in_text = tt
-not_given_by was_given fault in_length = tt
-not_given_by was_given fault in_memory = tt
-not_given_by was_given fault in_device = tt
+unsent_begun before_it before middle after old new _ is opened = unsent_opened before_it before middle after old new is opened

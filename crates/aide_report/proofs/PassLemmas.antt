@@ -1,7 +1,8 @@
 -- What passes keep: none, one after others, one that stops early, and a merge between its opening and its closing.
 use Rattle.std.specs.Prelude.{ℕ, ◌≡◌, ◌<◌, ◌≤◌, ◌+◌, ◌++◌, true, false, Option, List, Result, Ok, Err}
 use Rattle.std.proofs.Common.{refl, sym, subst, arith, ◌∙◌}
-use Rattle.aide_entry.specs.Cause.{cause_of}
+use Rattle.aide_db.specs.Answer.{StandsFor}
+use Rattle.aide_db.specs.Desk.{columns_of_side, list_of}
 use Rattle.aide_db.specs.DeskView.{DeskView}
 use Rattle.aide_db.specs.declared.fault.DbFault.{DbFault}
 use Rattle.aide_db.specs.declared.limits.Limits.{Limits}
@@ -13,9 +14,14 @@ use Rattle.aide_text.specs.Sheet.{Sheet, WritesSome, Wrote}
 use Rattle.aide_text.specs.declared.pen.Pen.{Pen}
 use Rattle.aide_text.proofs.Sheets.{part_after, part_as, some_more, wrote_as, wrote_more}
 use Rattle.aide_report.specs.code.LaterFault.{later_of}
-use Rattle.aide_merge.specs.code.Merging.{limits_at, reels_failed}
+use Rattle.aide_entry.specs.declared.column.Column.{Column}
+use Rattle.sha2.specs.Sha256.{sha256}
+use Rattle.aide_merge.specs.code.Digests.{AreDigests, digest_on}
+use Rattle.aide_merge.specs.code.Merging.{cursor_at, limits_at, reels_failed}
+use Rattle.aide_merge.specs.declared.digests.Digests.{Digests}
 use Rattle.aide_merge.specs.RightAnswer.{IsOfReliable}
-use Rattle.aide_merge.specs.Openings.{OpensExactly}
+use Rattle.aide_merge.specs.Openings.{IsNotGiven, IsRefusedThere, OpensExactly}
+use Rattle.aide_merge.specs.Room.{IsNotOfMemory}
 use Rattle.aide_merge.specs.code.MergeCalls.{IsOpened, KeepsMerge, IsMergeFault}
 use Rattle.aide_report.specs.code.PassFaults.{IsStopOf, Writes, pass_fault_of}
 use Rattle.aide_merge.specs.code.Desks.{KeepsDesk}
@@ -28,21 +34,18 @@ use Rattle.aide_report.specs.declared.change_writer.PassFault.TheVariants as pas
 use Rattle.aide_merge.specs.declared.merge.Merge.{Merge}
 use Rattle.aide_merge.specs.declared.run_fault.RunFault.{RunFault}
 use Rattle.aide_merge.specs.declared.run_fault.RunFault.TheVariants.{Open, Database, Changed, Write}
-use Rattle.aide_report.proofs.FaultLemmas.{caused_at, later_fault, reliable_at, rose_later}
-use Rattle.aide_report.proofs.FaultLemmas.{written_at}
+use Rattle.aide_report.proofs.FaultLemmas.{later_fault, later_is, rose_later}
 use Rattle.aide_merge.proofs.FaultLemmas.{none_failed, rose_since}
-use Rattle.aide_report.proofs.OpeningLemmas.{comes_later, comes_opened, not_given_by, refused_by}
-use Rattle.aide_report.proofs.OpeningLemmas.{refused_later}
+use Rattle.aide_report.proofs.OpeningLemmas.{comes_later, comes_opened, refused_later}
 use Rattle.aide_merge.proofs.PenLemmas.{caused_as}
-use Rattle.aide_report.proofs.RoomLemmas.{later_room}
 use Rattle.aide_merge.proofs.RoomLemmas.{still_fits}
 use Rattle.aide_report.proofs.SectionsLemmas.{opens_more, opens_none, opens_then}
 use Rattle.aide_merge.proofs.KeepLemmas.{desk_none, desk_then, sources_none, sources_then}
 
 -- ---- the parts of the frame, one after the other
 
--- a fault of a pass behind others
-fault_then : {limits : Limits} {a b c : Seen} {room room_now : ℕ} {sink : Type 0} {fault : RunFault} (n : ℕ)
+-- a fault of a pass after others, or after the first readings
+pub fault_then : {limits : Limits} {a b c : Seen} {room room_now : ℕ} {sink : Type 0} {fault : RunFault} (n : ℕ)
     → KeepsSources a b → OpensExactly a.openings b.openings n → room_now ≡ room
     → IsPassFault limits b c room_now sink fault → IsPassFault limits a c room sink fault
 fault_then {limits} {a} {b} {c} {room} {room_now} {sink} {fault} n keeps opens kept is = record {
@@ -142,11 +145,6 @@ passes_err {a = a} {b = b} {sink = sink} {next = next} {fault = fault} f p = rec
 
 -- ---- a merge, between its opening and its closing
 
--- both sides were opened, and a merge has begun to read them
-pub passes_begun : {T U : Type 0} {limits : Limits} {a b : Seen} {d e : DeskView} {sink : Type 0} {answer : T} {begun : U}
-    → Passes limits 1 a b d d sink (Ok answer) → KeepsDesk limits a.bytes_of d e → Passes limits 1 a b d e sink (Ok begun)
-passes_begun p desk = record { sources = p.sources; desk = desk; opens = p.opens; opens_some = p.opens_some; fault = tt }
-
 desk_merged : {R : Type 0} {r : Reels R} {limits : Limits} {bytes_of : Side → Option (List ℕ)} {m n : Merge R} {d e f : DeskView}
     → KeepsDesk limits bytes_of d e → IsOpened r limits bytes_of m e → KeepsMerge r m n e f → KeepsDesk limits bytes_of d f
 desk_merged p opened keeps = record {
@@ -160,101 +158,104 @@ opens_kept : {a b c : Side → ℕ} → c ≡ b → OpensExactly a b 1 → Opens
 opens_kept {a} {b} {c} same opens = subst (λ (new : Side → ℕ). OpensExactly a new 1) (sym same) opens
 
 -- the merge has come to its end
-pub pass_done : {U : Type 0} {R : Type 0} {r : Reels R} {limits : Limits} {a b c : Seen} {d e f : DeskView} {sink next : Type 0}
-    {m n : Merge R} {done : U} → Passes limits 1 a b d e sink (Ok m) → IsOpened r limits a.bytes_of m e → KeepsMerge r m n e f
-    → KeepsSources b c → c.openings ≡ b.openings → Passes limits 1 a c d f next (Ok done)
-pass_done {a = a} {b = b} {c = c} p opened keeps closes same =
+pub pass_done : {T U R : Type 0} {r : Reels R} {limits : Limits} {a b c : Seen} {d e f : DeskView} {sink next : Type 0}
+    {m n : Merge R} {reels : T} {done : U} → Passes limits 1 a b d d sink (Ok reels) → KeepsDesk limits a.bytes_of d e
+    → IsOpened r limits a.bytes_of m e → KeepsMerge r m n e f → KeepsSources b c → c.openings ≡ b.openings
+    → Passes limits 1 a c d f next (Ok done)
+pass_done {a = a} {b = b} {c = c} p begun opened keeps closes same =
     let opens = opens_kept same p.opens in
     record {
       sources = sources_then p.sources closes;
-      desk = desk_merged p.desk opened keeps;
+      desk = desk_merged begun opened keeps;
       opens = opens;
       opens_some = record { of_old = omega (arith, opens.of_old); of_new = omega (arith, opens.of_new) };
       fault = tt;
     }
 
 -- any other end of it
-pass_ends : {U : Type 0} {R : Type 0} {r : Reels R} {limits : Limits} {a b c : Seen} {d e f : DeskView} {sink next : Type 0}
-    {m n : Merge R} {fault : RunFault} → Passes limits 1 a b d e sink (Ok m) → IsOpened r limits a.bytes_of m e
-    → KeepsMerge r m n e f → KeepsSources b c → c.openings ≡ b.openings → IsPassFault limits a c d.room next fault
+pass_ends : {T U R : Type 0} {r : Reels R} {limits : Limits} {a b c : Seen} {d e f : DeskView} {sink next : Type 0}
+    {m n : Merge R} {reels : T} {fault : RunFault} → Passes limits 1 a b d d sink (Ok reels) → KeepsDesk limits a.bytes_of d e
+    → IsOpened r limits a.bytes_of m e → KeepsMerge r m n e f → KeepsSources b c → c.openings ≡ b.openings → IsPassFault limits a c d.room next fault
     → Passes {T = U} limits 1 a c d f next (Err fault)
-pass_ends p opened keeps closes same is =
+pass_ends p begun opened keeps closes same is =
     let opens = opens_kept same p.opens in
     record {
       sources = sources_then p.sources closes;
-      desk = desk_merged p.desk opened keeps;
+      desk = desk_merged begun opened keeps;
       opens = tt;
       opens_some = record { of_old = omega (arith, opens.of_old); of_new = omega (arith, opens.of_new) };
       fault = is;
     }
 
--- a side is not what it was
-pub pass_changed : {U : Type 0} {R : Type 0} {r : Reels R} {limits : Limits} {a b c : Seen} {d e f : DeskView} {sink next : Type 0}
-    {m n : Merge R} {side : Side} → Passes limits 1 a b d e sink (Ok m) → IsOpened r limits a.bytes_of m e
-    → KeepsMerge r m n e f → KeepsSources b c → c.openings ≡ b.openings → IsLater limits a.bytes_of (Changed side)
-    → Passes {T = U} limits 1 a c d f next (Err (Changed side))
-pass_changed p opened keeps closes same later =
+-- a side has another digest than before
+pub pass_changed : {T U R : Type 0} {r : Reels R} {limits : Limits} {a b c : Seen} {d e f : DeskView} {sink next : Type 0}
+    {m n : Merge R} {reels : T} {side : Side} {digests : Digests} → Passes limits 1 a b d d sink (Ok reels)
+    → KeepsDesk limits a.bytes_of d e → IsOpened r limits a.bytes_of m e → KeepsMerge r m n e f → KeepsSources b c
+    → c.openings ≡ b.openings
+    → ((list : List ℕ) (under : List Column) (text : List ℕ) → StandsFor r.to_come (cursor_at n side) list under text
+    → digest_on digests side ≡ sha256 text → ⊥)
+    → AreDigests a.bytes_of digests → Passes {T = U} limits 1 a c d f next (Err (Changed side))
+pass_changed {f = f} {n = n} {side = side} p begun opened keeps closes same changed digests =
     let opens = opens_kept same p.opens in
-    pass_ends p opened keeps closes same (record {
+    let cursor = cursor_at n side in
+    pass_ends p begun opened keeps closes same (record {
       begun = record { passes = 0; of_old = opens.of_old };
       refused = tt;
       not_given = tt;
-      later = later;
+      later = λ text told sound. changed (list_of cursor.side f) (columns_of_side cursor.side f) text
+          (keeps.stands side text (opened.stands side text told)) (digests side text told);
       caused = tt;
       reliable = λ reliable. tt;
       memory = λ le. tt;
     })
 
 -- the merge has ended in a fault
-pub pass_failed : {U : Type 0} {R : Type 0} {r : Reels R} {limits : Limits} {a b c : Seen} {d e f : DeskView} {sink next : Type 0}
-    {m n : Merge R} {fault : DbFault} → Passes limits 1 a b d e sink (Ok m) → IsOpened r limits a.bytes_of m e
-    → KeepsMerge r m n e f → KeepsSources b c → c.openings ≡ b.openings
+pub pass_failed : {T U R : Type 0} {r : Reels R} {limits : Limits} {a b c : Seen} {d e f : DeskView} {sink next : Type 0}
+    {m n : Merge R} {reels : T} {fault : DbFault} → Passes limits 1 a b d d sink (Ok reels) → KeepsDesk limits a.bytes_of d e
+    → IsOpened r limits a.bytes_of m e → KeepsMerge r m n e f → KeepsSources b c → c.openings ≡ b.openings
     → (0 < reels_failed r.failures n → Rose b.failures c.failures) → (b.is_reliable ≡ true → reels_failed r.failures n ≡ 0)
     → IsMergeFault r m n e fault → Passes {T = U} limits 1 a c d f next (Err (later_of fault))
 pass_failed {r = r} {limits = limits} {a = a} {b = b} {c = c} {d = d} {e = e} {next = next} {m = m} {n = n}
-    {fault = fault} p opened keeps closes same rose unfailed is =
+    {fault = fault} p begun opened keeps closes same rose unfailed is =
     let opens = opens_kept same p.opens in
-    pass_ends p opened keeps closes same (record {
+    pass_ends p begun opened keeps closes same (record {
       begun = comes_opened (a.openings Old) (c.openings Old) (later_of fault) opens.of_old;
-      refused = refused_by a.openings c.openings fault (cause_of fault.kind);
-      not_given = not_given_by c.was_given fault (cause_of fault.kind);
+      refused = later_is (IsRefusedThere a.openings c.openings) fault tt tt;
+      not_given = later_is (IsNotGiven c.was_given) fault tt tt;
       later = later_fault limits a.bytes_of fault (λ text told. subst (λ (l : Limits). IsFaultOf l text fault) (opened.limits_of fault.side)
           (is.first text (opened.stands fault.side text told)));
-      caused = caused_at (Rose a.failures c.failures) next fault
-          (λ read. rose_since a.failures b.failures c.failures p.sources.never_falls (rose (is.read read))) (cause_of fault.kind);
-      reliable = λ reliable. reliable_at a.bytes_of fault
-          (λ read. none_failed (reels_failed r.failures n) (unfailed (p.sources.reliable_same ∙ reliable)) (is.read read))
-          (cause_of fault.kind);
-      memory = λ le. later_room fault (is.memory (λ side. still_fits limits (limits_at m side) d.room e.room
-          (opened.limits_of side) p.desk.room le));
+      caused = later_is (IsCaused (Rose a.failures c.failures) next) fault tt
+          (λ read. rose_since a.failures b.failures c.failures p.sources.never_falls (rose (is.read read)));
+      reliable = λ reliable. later_is (IsOfReliable a.bytes_of) fault tt
+          (λ read. none_failed (reels_failed r.failures n) (unfailed (p.sources.reliable_same ∙ reliable)) (is.read read));
+      memory = λ le. later_is IsNotOfMemory fault tt
+          (is.memory (λ side. still_fits limits (limits_at m side) d.room e.room (opened.limits_of side) begun.room le));
     })
 
 -- the same, or a write has failed
-pub pass_stopped : {U : Type 0} {R : Type 0} {r : Reels R} {limits : Limits} {a b c : Seen} {d e f : DeskView} {sink : Type 0}
-    {m n : Merge R} (fault : PassFault) (sent : ℕ) (pen : Pen) → Passes limits 1 a b d e sink (Ok m) → IsOpened r limits a.bytes_of m e
-    → KeepsMerge r m n e f → KeepsSources b c → c.openings ≡ b.openings
+pub pass_stopped : {T U R : Type 0} {r : Reels R} {limits : Limits} {a b c : Seen} {d e f : DeskView} {sink : Type 0}
+    {m n : Merge R} {reels : T} (fault : PassFault) (sent : ℕ) (pen : Pen) → Passes limits 1 a b d d sink (Ok reels)
+    → KeepsDesk limits a.bytes_of d e → IsOpened r limits a.bytes_of m e → KeepsMerge r m n e f → KeepsSources b c → c.openings ≡ b.openings
     → (0 < reels_failed r.failures n → Rose b.failures c.failures) → (b.is_reliable ≡ true → reels_failed r.failures n ≡ 0)
     → IsStopOf r m n e pen fault
     → Passes {T = U} limits 1 a c d f (pen.failed ≡ true) (Err (pass_fault_of fault sent))
-pass_stopped (passes.Database fault) sent pen p opened keeps closes same rose unfailed is =
-    pass_failed p opened keeps closes same rose unfailed is.1
-pass_stopped passes.Write sent pen p opened keeps closes same rose unfailed is =
-    pass_ends p opened keeps closes same
+pass_stopped (passes.Database fault) sent pen p begun opened keeps closes same rose unfailed is =
+    pass_failed p begun opened keeps closes same rose unfailed is.1
+pass_stopped passes.Write sent pen p begun opened keeps closes same rose unfailed is =
+    pass_ends p begun opened keeps closes same
     (record { begun = tt; refused = tt; not_given = tt; later = tt; caused = is; reliable = λ reliable. tt; memory = λ le. tt })
 
 -- a pass that stops has told what was written
 pub stop_written : {R : Type 0} (r : Reels R) (m n : Merge R) (d : DeskView) (pen : Pen) (fault : PassFault)
     → IsStopOf r m n d pen fault → HasPenWritten pen (pass_fault_of fault pen.sent)
-stop_written r m n d pen (passes.Database fault) is = written_at pen fault (cause_of fault.kind) is.0
+stop_written r m n d pen (passes.Database fault) is = later_is (HasPenWritten pen) fault is.0 is.0
 stop_written r m n d pen passes.Write is = (is, refl)
 
 -- nor where no sink was there to fail
 pub unwritten : (sources : Type 0) (pen : Pen) (fault : RunFault) → pen.failed ≡ false → IsCaused sources ⊥ fault
     → HasPenWritten pen fault
-unwritten sources pen (Open side) on is = on
-unwritten sources pen (Database fault) on is = on
-unwritten sources pen (Changed side) on is = on
 unwritten sources pen (Write written) on is = absurd is
+unwritten sources pen _ on is = on
 
 -- a pen that has written before
 pub pen_then : {T : Type 0} {a b e : Sheet} {pen : Pen} {result : Result T RunFault} → WritesSome a b

@@ -76,9 +76,7 @@ pub a_sink_never_falls : {T : Type 0} (before after : ℕ) (result : Result T Ru
     → before ≤ after
 a_sink_never_falls before after (Ok answer) same = omega (arith, same)
 a_sink_never_falls before after (Err (Write written)) counts = omega (arith, counts)
-a_sink_never_falls before after (Err (Open side)) same = omega (arith, same)
-a_sink_never_falls before after (Err (Database fault)) same = omega (arith, same)
-a_sink_never_falls before after (Err (Changed side)) same = omega (arith, same)
+a_sink_never_falls before after _ same = omega (arith, same)
 
 -- Over two openings of a side whose texts differ in their SHA-256 no run ends with `Ok`: by its clause `agreed`.
 pub other_openings_end_in_a_fault : {T : Type 0} (bytes_at : Side → ℕ → Option (List ℕ)) (before after : Side → ℕ)

@@ -12,12 +12,12 @@ use Rattle.aide_text.specs.declared.sink.Sink.{Ghosts as AnySink}
 use Rattle.aide_text.proofs.Sending.{Appends-nothing}
 use Rattle.aide_report.specs.Agreement.{IsOfOutcome, OpensByOutcome}
 use Rattle.aide_merge.specs.Asked.{Asked}
-use Rattle.aide_merge.specs.RightAnswer.{IsHindered, IsOfReliable, StopsFor, TellsSide}
+use Rattle.aide_merge.specs.RightAnswer.{IsHindered, StopsFor, TellsSide}
 use Rattle.aide_report.specs.Given.{GiveOneDigest}
 use Rattle.aide_report.specs.Missing.{RunsOver}
 use Rattle.aide_merge.specs.Openings.{OpensAtMost, OpensExactly}
 use Rattle.aide_report.specs.Run.{IsRun}
-use Rattle.aide_merge.specs.RunFaults.{HasSentNothing, HasWrittenIfAny, IsCaused, IsLater}
+use Rattle.aide_merge.specs.RunFaults.{HasSentNothing, HasWrittenIfAny, IsCaused}
 use Rattle.aide_report.specs.Runs.{EndsEarly, EndsWell, Runs, openings_over, report_over}
 use Rattle.aide_merge.specs.RightAnswer.{Report}
 use Rattle.aide_merge.specs.Seen.{KeepsSources, Seen, SinkSeen, sink_seen}
@@ -29,12 +29,11 @@ use Rattle.aide_merge.specs.declared.run_fault.RunFault.{RunFault}
 use Rattle.aide_merge.specs.declared.run_fault.RunFault.TheVariants.{Open, Database, Changed, Write}
 use Rattle.aide_merge.proofs.BoundLemmas.{fits_limit, fits_within}
 use Rattle.aide_report.proofs.FaultLemmas.{answer_later, cause_by, first_later, right_later}
-use Rattle.aide_report.proofs.FaultLemmas.{rose_later}
-use Rattle.aide_merge.proofs.FaultLemmas.{rose_since}
 use Rattle.aide_report.proofs.MissingLemmas.{front_by, later_over, nothing_front}
 use Rattle.aide_merge.proofs.AnswerLemmas.{hindered_by, stops_by, stops_hindered}
 use Rattle.aide_report.proofs.MissingLemmas.{whole_by}
-use Rattle.aide_report.proofs.OpeningLemmas.{refused_later, unsent_begun, unsent_nothing}
+use Rattle.aide_report.proofs.OpeningLemmas.{unsent_begun, unsent_nothing}
+use Rattle.aide_report.proofs.PassLemmas.{fault_then}
 use Rattle.aide_merge.proofs.KeepLemmas.{sources_then}
 use Rattle.aide_merge.proofs.KeepLemmas.{clears_then}
 use Rattle.aide_merge.proofs.PenLemmas.{caused_as, counts_nothing}
@@ -47,10 +46,8 @@ at_most k n is = omega (arith, is)
 
 nothing_written : (sources : Type 0) (bytes : Option (List ℕ)) (fault : RunFault) → IsCaused sources ⊥ fault
     → HasWrittenIfAny bytes bytes fault
-nothing_written sources bytes (Open side) caused = tt
-nothing_written sources bytes (Database first) caused = tt
-nothing_written sources bytes (Changed side) caused = tt
 nothing_written sources bytes (Write written) caused = absurd caused
+nothing_written sources bytes _ caused = tt
 
 -- what a fault of the readings says of the answer
 abbrev pub StopsFirst : Limits → (a b : Seen) → RunFault → Type 0
@@ -182,20 +179,16 @@ module _ (limits : Limits) (wish : Asked) (n m : ℕ) {a b c : Seen} {d e f : De
       let peaks = fits_limit a.bytes_of limits d f cleared.fits in
       let sources = Rose a.failures c.failures in
       let sink = Rose (s.failures out) (s.failures sent) in
-      let is = passes.fault in
-      let later = subst (λ bytes. IsLater limits bytes fault) read.kept.same is.later in
-      let right = right_later limits a.bytes_of b.bytes_of read.kept.same read.sound fault is.later in
-      let caused = rose_later (Rose b.failures c.failures) sources sink fault
-      (rose_since a.failures b.failures c.failures read.kept.never_falls) is.caused in
+      let is = fault_then n read.kept read.opened read.cleared.room passes.fault in
+      let right = right_later limits a.bytes_of read.sound fault is.later in
       record {
         over = λ old new told_old told_new r runs. (
           stops_hindered r (IsHindered old new sources sink) fault
-              (later_over limits a.bytes_of a.is_missing old new sources sink fault told_old told_new read.there read.sound later caused),
+              (later_over limits a.bytes_of a.is_missing old new sources sink fault told_old told_new read.there read.sound is.later is.caused),
           front_by limits (report_over wish) a.bytes_of a.is_missing old new (s.delivered out) (s.delivered sent) told_old told_new
               read.there early r runs,
         );
-        reliable = λ are_reliable. subst (λ bytes. IsOfReliable bytes fault) read.kept.same
-            (is.reliable (read.kept.reliable_same ∙ are_reliable));
+        reliable = is.reliable;
         sound = tt;
         nothing = λ side text told unsound. absurd (unsound (read.sound side text told));
         written = flush.written;
@@ -204,12 +197,12 @@ module _ (limits : Limits) (wish : Asked) (n m : ℕ) {a b c : Seen} {d e f : De
         flushes = flush.flushes;
         unsent = subst (λ n. HasSentNothing n (a.openings Old) (c.openings Old) (s.delivered out) (s.delivered sent) fault) (sym before)
             (unsent_begun n (a.openings Old) (b.openings Old) (c.openings Old) (s.delivered out) (s.delivered sent) fault
-            read.opened.of_old is.begun);
+            read.opened.of_old passes.fault.begun);
         agreed = tt;
-        cause = cause_by limits wish (report_over wish) a.bytes_of sources sink fault caused
-            (answer_later limits wish a.bytes_of b.bytes_of fault is.later) right;
+        cause = cause_by limits wish (report_over wish) a.bytes_of sources sink fault is.caused
+            (answer_later limits wish a.bytes_of fault is.later) right;
         right = right;
-        refused = refused_later a.openings b.openings c.openings n fault read.opened is.refused;
+        refused = is.refused;
         not_given = is.not_given;
         sources_never_fall = kept.never_falls;
         sink_fails = flush.fails;
@@ -218,11 +211,11 @@ module _ (limits : Limits) (wish : Asked) (n m : ℕ) {a b c : Seen} {d e f : De
         opens_within = λ old new told_old told_new sound_old sound_new.
             opens_then _ _ _ n m _ (at_most _ _ (are old new told_old told_new)) read.opened passes.opens_some;
         opens_some = opens_then _ _ _ n m _ most read.opened passes.opens_some;
-        opens_first = first_later limits b.bytes_of a.openings c.openings fault is.later;
+        opens_first = first_later limits a.bytes_of a.openings c.openings fault is.later;
         peak = peaks.0;
         below = peaks.1;
         bound = fits_within a.bytes_of limits d f cleared.fits;
         room = cleared.room;
-        memory = λ fits. is.memory (subst (λ room. limits.line ≤ room) (sym read.cleared.room) fits);
+        memory = is.memory;
         lookups = kept.lookups;
       }

@@ -1,14 +1,12 @@
-use Rattle.std.proofs.Common.{◌≤◌, ◌∙◌, ap, arith, refl, subst, sym}
+use Rattle.std.proofs.Common.{◌∙◌, ap, arith, refl, sym}
 use Rattle.aide_db.specs.declared.side.Side.TheVariants.{Old, New}
-use Rattle.aide_merge.specs.RightAnswer.{IsHindered, IsOfReliable}
-use Rattle.aide_merge.specs.RunFaults.{IsLater}
+use Rattle.aide_merge.specs.RightAnswer.{IsHindered}
 use Rattle.aide_text.specs.Failures.{Rose}
-use Rattle.aide_report.proofs.FaultLemmas.{answer_later, first_later, right_later, rose_later}
-use Rattle.aide_merge.proofs.FaultLemmas.{rose_since}
+use Rattle.aide_report.proofs.FaultLemmas.{answer_later, first_later, right_later}
 use Rattle.aide_report.proofs.GivenLemmas.{gave_then}
 use Rattle.aide_report.proofs.MissingLemmas.{later_over}
 use Rattle.aide_merge.proofs.AnswerLemmas.{stops_hindered}
-use Rattle.aide_report.proofs.OpeningLemmas.{refused_later}
+use Rattle.aide_report.proofs.PassLemmas.{fault_then}
 use Rattle.aide_merge.proofs.KeepLemmas.{sources_then}
 use Rattle.aide_merge.proofs.KeepLemmas.{clears_then}
 use Rattle.aide_report.proofs.RunLemmas.{counts_are}
@@ -102,41 +100,27 @@ returns-in-Err-count_pass-clause-desk g c =
 
 pub returns-in-Err-count_pass-clause-fault : goal.returns-in-Err-count_pass-clause-fault
 returns-in-Err-count_pass-clause-fault g c =
-    let fault = c.in-Err-count_pass.ensures.passes.fault in
+    let fault = c.in-Err-count_pass.fault in
     let bytes_of = g.S.Sources.bytes_of c.args.sources.now in
-    let read_bytes = g.S.Sources.bytes_of c.read_both.new.sources in
-    let before = g.S.Sources.failures c.args.sources.now in
-    let middle = g.S.Sources.failures c.read_both.new.sources in
-    let after = g.S.Sources.failures c.count_pass.new.sources in
-    let opened = g.S.Sources.openings c.args.sources.now in
-    let kept = c.read_both.ensures.sources in
+    let is = fault_then 1 c.read_both.ensures.sources c.in-Ok.ensures.opens c.read_both.ensures.desk.room
+    c.in-Err-count_pass.ensures.passes.fault in
     record {
-      right = right_later c.args.limits bytes_of read_bytes kept.same c.in-Ok.ensures.read.sound c.in-Err-count_pass.fault
-          fault.later;
-      first = λ wish. answer_later c.args.limits wish bytes_of read_bytes c.in-Err-count_pass.fault fault.later;
-      opens_first = first_later c.args.limits read_bytes opened (g.S.Sources.openings c.count_pass.new.sources)
-          c.in-Err-count_pass.fault fault.later;
-      not_given = fault.not_given;
-      refused = refused_later opened (g.S.Sources.openings c.read_both.new.sources)
-          (g.S.Sources.openings c.count_pass.new.sources) 1 c.in-Err-count_pass.fault c.in-Ok.ensures.opens fault.refused;
-      caused = rose_later (Rose middle after) (Rose before after) ⊥ c.in-Err-count_pass.fault
-          (rose_since before middle after kept.never_falls) fault.caused;
-      reliable = λ is. subst (λ bytes. IsOfReliable bytes c.in-Err-count_pass.fault) kept.same
-          (fault.reliable (kept.reliable_same ∙ is));
-      memory = λ le. fault.memory (subst (λ room. c.args.limits.line ≤ room) (sym c.read_both.ensures.desk.room) le);
+      right = right_later c.args.limits bytes_of c.in-Ok.ensures.read.sound fault is.later;
+      first = λ wish. answer_later c.args.limits wish bytes_of fault is.later;
+      opens_first = first_later c.args.limits bytes_of (g.S.Sources.openings c.args.sources.now)
+          (g.S.Sources.openings c.count_pass.new.sources) fault is.later;
+      refused = is.refused;
+      not_given = is.not_given;
+      caused = is.caused;
+      reliable = is.reliable;
+      memory = is.memory;
     }
 
 pub returns-in-Err-count_pass-clause-over : goal.returns-in-Err-count_pass-clause-over
-returns-in-Err-count_pass-clause-over g c = λ wish old new told_old told_new r runs.
-    let before = g.S.Sources.failures c.args.sources.now in
-    let middle = g.S.Sources.failures c.read_both.new.sources in
-    let after = g.S.Sources.failures c.count_pass.new.sources in
-    let fault = c.in-Err-count_pass.fault in
-    let kept = c.read_both.ensures.sources in
-    let is_missing = g.S.Sources.is_missing c.args.sources.now in
-    stops_hindered r (IsHindered old new (Rose before after) ⊥) fault
-    (later_over c.args.limits (g.S.Sources.bytes_of c.args.sources.now) is_missing old new (Rose before after) ⊥ fault
-    told_old told_new c.in-Ok.ensures.read.there c.in-Ok.ensures.read.sound
-    (subst (λ bytes. IsLater c.args.limits bytes fault) kept.same c.in-Err-count_pass.ensures.passes.fault.later)
-    (rose_later (Rose middle after) (Rose before after) ⊥ fault (rose_since before middle after kept.never_falls)
-    c.in-Err-count_pass.ensures.passes.fault.caused))
+returns-in-Err-count_pass-clause-over g c wish old new told_old told_new r runs =
+    let is = fault_then 1 c.read_both.ensures.sources c.in-Ok.ensures.opens c.read_both.ensures.desk.room
+    c.in-Err-count_pass.ensures.passes.fault in
+    let rose = Rose (g.S.Sources.failures c.args.sources.now) (g.S.Sources.failures c.count_pass.new.sources) in
+    stops_hindered r (IsHindered old new rose ⊥) c.in-Err-count_pass.fault
+    (later_over c.args.limits (g.S.Sources.bytes_of c.args.sources.now) (g.S.Sources.is_missing c.args.sources.now) old new rose ⊥
+    c.in-Err-count_pass.fault told_old told_new c.in-Ok.ensures.read.there c.in-Ok.ensures.read.sound is.later is.caused)

@@ -1,23 +1,17 @@
-use Rattle.std.proofs.Common.{◌≡◌, ◌∙◌, ◌≤◌, ap, refl, sym, subst, arith}
+use Rattle.std.proofs.Common.{◌≡◌, ◌∙◌, ap, refl, sym}
 use Rattle.std.specs.Prelude.{Some}
 use Rattle.aide_db.specs.Count.{one_more}
 use Rattle.aide_db.specs.Database.{IsSound}
 use Rattle.aide_db.specs.declared.side.Side.TheVariants.{Old, New}
-use Rattle.aide_merge.specs.RightAnswer.{IsOfReliable}
-use Rattle.aide_merge.specs.RunFaults.{IsFirst}
 use Rattle.aide_text.specs.Failures.{Rose}
-use Rattle.aide_report.proofs.FaultLemmas.{answer_new, answer_old, opens_first}
-use Rattle.aide_merge.proofs.FaultLemmas.{right_first, rose_since}
-use Rattle.aide_report.proofs.FaultLemmas.{rose_later}
+use Rattle.aide_report.proofs.FaultLemmas.{answer_new, answer_old}
 use Rattle.aide_merge.specs.code.Digests.{digest_on}
 use Rattle.aide_report.specs.code.GivenDigests.{next_given}
 use Rattle.sha2.specs.Sha256.{sha256}
 use Rattle.aide_report.proofs.GivenLemmas.{gave_once}
 use Rattle.aide_report.proofs.MissingLemmas.{both_there, first_over, second_over}
-use Rattle.aide_merge.proofs.FaultLemmas.{refused_first}
-use Rattle.aide_merge.proofs.KeepLemmas.{sources_then}
-use Rattle.aide_merge.proofs.KeepLemmas.{clears}
-use Rattle.aide_report.proofs.ReadingLemmas.{clears_read}
+use Rattle.aide_merge.proofs.KeepLemmas.{clears, sources_none, sources_then}
+use Rattle.aide_report.proofs.ReadingLemmas.{clears_read, finding_first, reading_then}
 use Rattle.aide_merge.proofs.SideLemmas.{of_sides}
 use Rattle.aide_report.proofs.comparison.read_both.Goals as goal
 
@@ -38,75 +32,34 @@ returns-in-Err-read_whole-clause-desk g c =
 
 pub returns-in-Err-clause-fault : goal.returns-in-Err-clause-fault
 returns-in-Err-clause-fault g c =
-    let fault = c.in-Err.ensures.fault in
-    record {
-      right = right_first c.args.limits (g.S.Sources.bytes_of c.args.sources.now) Old c.in-Err.fault fault.first;
-      first = λ wish. answer_old c.args.limits wish (g.S.Sources.bytes_of c.args.sources.now) c.in-Err.fault fault.first;
-      opens_first = opens_first c.args.limits (g.S.Sources.bytes_of c.args.sources.now) Old (g.S.Sources.openings c.args.sources.now)
-          (g.S.Sources.openings c.read_whole.new.sources)
-          c.in-Err.fault (c.read_whole.ensures.opens.opens, c.read_whole.ensures.opens.others) fault.first;
-      not_given = fault.not_given;
-      refused = refused_first c.args.limits (g.S.Sources.bytes_of c.args.sources.now) Old (g.S.Sources.openings c.args.sources.now)
-          (g.S.Sources.openings c.read_whole.new.sources)
-          c.in-Err.fault c.read_whole.ensures.opens.opens (omega (arith, c.read_whole.ensures.opens.others)) fault.first;
-      caused = fault.caused;
-      reliable = fault.reliable;
-      memory = λ le. fault.memory (subst (λ room. c.args.limits.line ≤ room) (sym c.clear.ensures.room) le);
-    }
+    let is = reading_then (sources_none _) c.clear.ensures.room c.in-Err.ensures.fault in
+    finding_first (c.read_whole.ensures.opens.opens, c.read_whole.ensures.opens.others)
+    (λ wish. answer_old c.args.limits wish (g.S.Sources.bytes_of c.args.sources.now) c.in-Err.fault is.first) is
 
 pub returns-in-Err-read_whole-clause-fault : goal.returns-in-Err-read_whole-clause-fault
 returns-in-Err-read_whole-clause-fault g c =
-    let fault = c.in-Err-read_whole.ensures.fault in
-    let bytes_of = g.S.Sources.bytes_of c.args.sources.now in
-    let before = g.S.Sources.failures c.args.sources.now in
-    let middle = g.S.Sources.failures c.read_whole.new.sources in
-    let after = g.S.Sources.failures c.read_whole-2.new.sources in
-    let same = c.read_whole.ensures.sources.same in
-    let first = subst (λ bytes. IsFirst c.args.limits bytes New c.in-Err-read_whole.fault) same fault.first in
-    record {
-      right = right_first c.args.limits bytes_of New c.in-Err-read_whole.fault first;
-      first = λ wish. answer_new c.args.limits wish bytes_of c.in-Err-read_whole.fault
-          (λ text told. (c.in-Ok.ensures.read.sound text told).0) first;
-      opens_first = opens_first c.args.limits bytes_of New (g.S.Sources.openings c.args.sources.now)
-          (g.S.Sources.openings c.read_whole-2.new.sources)
-          c.in-Err-read_whole.fault (
-            c.read_whole-2.ensures.opens.others ∙ c.read_whole.ensures.opens.opens,
-            c.read_whole-2.ensures.opens.opens
-                ∙ ap one_more c.read_whole.ensures.opens.others,
-          ) first;
-      not_given = fault.not_given;
-      refused = refused_first c.args.limits (g.S.Sources.bytes_of c.read_whole.new.sources) New (g.S.Sources.openings c.args.sources.now)
-          (g.S.Sources.openings c.read_whole-2.new.sources)
-          c.in-Err-read_whole.fault (c.read_whole-2.ensures.opens.others ∙ c.read_whole.ensures.opens.opens)
-          (c.read_whole-2.ensures.opens.opens ∙ ap one_more c.read_whole.ensures.opens.others)
-          fault.first;
-      caused = rose_later (Rose middle after) (Rose before after) ⊥ c.in-Err-read_whole.fault
-          (rose_since before middle after c.read_whole.ensures.sources.never_falls) fault.caused;
-      reliable = λ is. subst (λ bytes. IsOfReliable bytes c.in-Err-read_whole.fault) same
-          (fault.reliable (c.read_whole.ensures.sources.reliable_same ∙ is));
-      memory = λ le. fault.memory (subst (λ room. c.args.limits.line ≤ room) (sym (c.read_whole.ensures.room ∙ c.clear.ensures.room)) le);
-    }
+    let is = reading_then c.read_whole.ensures.sources (c.read_whole.ensures.room ∙ c.clear.ensures.room)
+    c.in-Err-read_whole.ensures.fault in
+    finding_first (
+      c.read_whole-2.ensures.opens.others ∙ c.read_whole.ensures.opens.opens,
+      c.read_whole-2.ensures.opens.opens ∙ ap one_more c.read_whole.ensures.opens.others,
+    ) (λ wish. answer_new c.args.limits wish (g.S.Sources.bytes_of c.args.sources.now) c.in-Err-read_whole.fault
+    (λ text told. (c.in-Ok.ensures.read.sound text told).0) is.first) is
 
 pub returns-in-Err-clause-over : goal.returns-in-Err-clause-over
-returns-in-Err-clause-over g c = λ wish old new told_old told_new r runs.
+returns-in-Err-clause-over g c wish old new told_old told_new r runs =
     first_over c.args.limits wish (g.S.Sources.bytes_of c.args.sources.now) (g.S.Sources.is_missing c.args.sources.now) old new
     (Rose (g.S.Sources.failures c.args.sources.now) (g.S.Sources.failures c.read_whole.new.sources)) c.in-Err.fault
     told_old c.in-Err.ensures.fault.first c.in-Err.ensures.fault.caused c.in-Err.ensures.fault.missing r runs
 
 pub returns-in-Err-read_whole-clause-over : goal.returns-in-Err-read_whole-clause-over
-returns-in-Err-read_whole-clause-over g c = λ wish old new told_old told_new r runs.
-    let before = g.S.Sources.failures c.args.sources.now in
-    let after = g.S.Sources.failures c.read_whole-2.new.sources in
-    let fault = c.in-Err-read_whole.fault in
+returns-in-Err-read_whole-clause-over g c wish old new told_old told_new r runs =
+    let is = reading_then c.read_whole.ensures.sources (c.read_whole.ensures.room ∙ c.clear.ensures.room)
+    c.in-Err-read_whole.ensures.fault in
     second_over c.args.limits wish (g.S.Sources.bytes_of c.args.sources.now) (g.S.Sources.is_missing c.args.sources.now) old new
-    (Rose before after) fault
+    (Rose (g.S.Sources.failures c.args.sources.now) (g.S.Sources.failures c.read_whole-2.new.sources)) c.in-Err-read_whole.fault
     told_old told_new c.in-Ok.ensures.read.refuses (λ text told. (c.in-Ok.ensures.read.sound text told).0)
-    (subst (λ bytes. IsFirst c.args.limits bytes New fault) c.read_whole.ensures.sources.same c.in-Err-read_whole.ensures.fault.first)
-    (rose_later (Rose (g.S.Sources.failures c.read_whole.new.sources) after) (Rose before after) ⊥ fault
-    (rose_since before (g.S.Sources.failures c.read_whole.new.sources) after c.read_whole.ensures.sources.never_falls)
-    c.in-Err-read_whole.ensures.fault.caused)
-    (λ gone. c.in-Err-read_whole.ensures.fault.missing (ap (λ missing. missing New) c.read_whole.ensures.sources.missing_same ∙ gone)) r
-    runs
+    is.first is.caused is.missing r runs
 
 pub returns-in-Err-read_whole-clause-sources : goal.returns-in-Err-read_whole-clause-sources
 returns-in-Err-read_whole-clause-sources g c = sources_then c.read_whole.ensures.sources c.read_whole-2.ensures.sources

@@ -1,11 +1,9 @@
 use Rattle.std.proofs.Common.{[], subst}
 use Rattle.std.proofs.lemmas.Result.{err_from_is_err_and}
-use Rattle.aide_db.specs.Desk.{list_of, columns_of_side}
 use Rattle.aide_db.specs.declared.side.Side.TheVariants.{Old, New}
 use Rattle.aide_report.specs.code.Counts.{Completes}
-use Rattle.aide_merge.specs.code.Merging.{cursor_at}
 use Rattle.aide_report.proofs.GivenLemmas.{gave_merged}
-use Rattle.aide_report.proofs.PassLemmas.{pass_changed, pass_done, pass_failed, passes_begun}
+use Rattle.aide_report.proofs.PassLemmas.{pass_changed, pass_done, pass_failed}
 use Rattle.aide_report.proofs.PassLemmas.{passes_err}
 use Rattle.aide_report.specs.code.GivenDigests.{next_given}
 use Rattle.aide_report.proofs.pass.count_pass.Goals as goal
@@ -17,10 +15,9 @@ returns-in_err-old_reel-clause-passes g c =
 
 pub returns-in-None-clause-passes : goal.returns-in-None-clause-passes
 returns-in-None-clause-passes g c =
-    let bytes_of = g.S.Sources.bytes_of c.args.sources.now in
-    let begun = passes_begun (c.in_ok-old_reel.ensures.passes c.args.limits c.args.desk.now) (c.start-merge.ensures.desk bytes_of) in
-    let opened = c.start-merge.ensures.opened bytes_of c.in_ok-old_reel.ensures.gives in
-    pass_done begun opened c.count.ensures.keeps c.close_both.ensures.keeps c.close_both.ensures.openings
+    pass_done (c.in_ok-old_reel.ensures.passes c.args.limits c.args.desk.now) (c.start-merge.ensures.desk _)
+    (c.start-merge.ensures.opened _ c.in_ok-old_reel.ensures.gives)
+    c.count.ensures.keeps c.close_both.ensures.keeps c.close_both.ensures.openings
 
 pub returns-in-None-clause-counts : goal.returns-in-None-clause-counts
 returns-in-None-clause-counts g c old new told_old told_new =
@@ -31,22 +28,16 @@ returns-in-None-clause-counts g c old new told_old told_new =
 
 pub returns-in-Some-clause-passes : goal.returns-in-Some-clause-passes
 returns-in-Some-clause-passes g c =
-    let bytes_of = g.S.Sources.bytes_of c.args.sources.now in
-    let begun = passes_begun (c.in_ok-old_reel.ensures.passes c.args.limits c.args.desk.now) (c.start-merge.ensures.desk bytes_of) in
-    let opened = c.start-merge.ensures.opened bytes_of c.in_ok-old_reel.ensures.gives in
-    let cursor = cursor_at c.count.new.merge c.in-Some.side in
-    pass_changed begun opened c.count.ensures.keeps c.close_both.ensures.keeps c.close_both.ensures.openings
-    (λ text told sound. c.in-Some.ensures.changed (list_of cursor.side c.count.new.desk) (columns_of_side cursor.side c.count.new.desk) text
-    (c.count.ensures.keeps.stands c.in-Some.side text (opened.stands c.in-Some.side text told))
-    (c.requires.digests c.in-Some.side text told))
+    pass_changed (c.in_ok-old_reel.ensures.passes c.args.limits c.args.desk.now) (c.start-merge.ensures.desk _)
+    (c.start-merge.ensures.opened _ c.in_ok-old_reel.ensures.gives)
+    c.count.ensures.keeps c.close_both.ensures.keeps c.close_both.ensures.openings c.in-Some.ensures.changed c.requires.digests
 
 pub returns-in-Err-clause-passes : goal.returns-in-Err-clause-passes
 returns-in-Err-clause-passes g c =
-    let bytes_of = g.S.Sources.bytes_of c.args.sources.now in
-    let begun = passes_begun (c.in_ok-old_reel.ensures.passes c.args.limits c.args.desk.now) (c.start-merge.ensures.desk bytes_of) in
-    let opened = c.start-merge.ensures.opened bytes_of c.in_ok-old_reel.ensures.gives in
     let closed = c.close_both-in-Err.ensures in
-    rw c.later_fault.ensures (pass_failed begun opened c.count.ensures.keeps closed.keeps closed.openings
+    rw c.later_fault.ensures (pass_failed (c.in_ok-old_reel.ensures.passes c.args.limits c.args.desk.now) (c.start-merge.ensures.desk _)
+    (c.start-merge.ensures.opened _ c.in_ok-old_reel.ensures.gives)
+    c.count.ensures.keeps closed.keeps closed.openings
     closed.rose closed.unfailed c.in-Err.ensures.fault)
 
 pub count-requires : goal.count-requires

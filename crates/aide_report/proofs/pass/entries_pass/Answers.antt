@@ -1,18 +1,16 @@
 use Rattle.std.proofs.Common.{◌∙◌, ap, subst}
 use Rattle.std.proofs.lemmas.Result.{err_from_is_err_and}
-use Rattle.aide_db.specs.Desk.{list_of, columns_of_side}
 use Rattle.aide_db.specs.Map.{entries_of}
 use Rattle.aide_entry.specs.Path.{path_cmp}
 use Rattle.aide_db.specs.declared.side.Side.TheVariants.{Old, New}
 use Rattle.aide_merge.specs.Merged.{merged}
-use Rattle.aide_merge.specs.code.Merging.{cursor_at}
 use Rattle.aide_text.specs.PenSheet.{on_sheet}
 use Rattle.std.specs.List.{flat_map}
 use Rattle.aide_text.specs.Failures.{Rose}
 use Rattle.aide_text.specs.Sheet.{Wrote, WritesPart}
 use Rattle.aide_text.proofs.Sheets.{part_whole, part_nothing, some_nothing}
 use Rattle.aide_report.proofs.GivenLemmas.{gave_merged}
-use Rattle.aide_report.proofs.PassLemmas.{pass_changed, pass_done, pass_stopped, passes_begun}
+use Rattle.aide_report.proofs.PassLemmas.{pass_changed, pass_done, pass_stopped}
 use Rattle.aide_report.proofs.PassLemmas.{passes_err, stop_written, unwritten}
 use Rattle.aide_report.specs.code.GivenDigests.{next_given}
 use Rattle.aide_report.proofs.pass.entries_pass.Goals as goal
@@ -30,11 +28,9 @@ returns-in_err-old_reel-clause-writes g c old new told_old told_new =
 
 pub returns-in-None-clause-passes : goal.returns-in-None-clause-passes
 returns-in-None-clause-passes g c =
-    let bytes_of = g.S.Sources.bytes_of c.args.sources.now in
-    let begun = passes_begun (c.in_ok-old_reel.ensures.passes c.args.plan.now.limits c.args.desk.now)
-    (c.start-merge.ensures.desk bytes_of) in
-    let opened = c.start-merge.ensures.opened bytes_of c.in_ok-old_reel.ensures.gives in
-    pass_done begun opened c.put_entries.ensures.keeps c.close_both.ensures.keeps c.close_both.ensures.openings
+    pass_done (c.in_ok-old_reel.ensures.passes c.args.plan.now.limits c.args.desk.now) (c.start-merge.ensures.desk _)
+    (c.start-merge.ensures.opened _ c.in_ok-old_reel.ensures.gives)
+    c.put_entries.ensures.keeps c.close_both.ensures.keeps c.close_both.ensures.openings
 
 pub returns-in-None-clause-writes : goal.returns-in-None-clause-writes
 returns-in-None-clause-writes g c old new told_old told_new =
@@ -46,16 +42,9 @@ returns-in-None-clause-writes g c old new told_old told_new =
 
 pub returns-in-Some-clause-passes : goal.returns-in-Some-clause-passes
 returns-in-Some-clause-passes g c =
-    let bytes_of = g.S.Sources.bytes_of c.args.sources.now in
-    let begun = passes_begun (c.in_ok-old_reel.ensures.passes c.args.plan.now.limits c.args.desk.now)
-    (c.start-merge.ensures.desk bytes_of) in
-    let opened = c.start-merge.ensures.opened bytes_of c.in_ok-old_reel.ensures.gives in
-    let cursor = cursor_at c.put_entries.new.merge c.in-Some.side in
-    pass_changed begun opened c.put_entries.ensures.keeps c.close_both.ensures.keeps c.close_both.ensures.openings
-    (λ text told sound. c.in-Some.ensures.changed (list_of cursor.side c.put_entries.new.desk)
-    (columns_of_side cursor.side c.put_entries.new.desk) text
-    (c.put_entries.ensures.keeps.stands c.in-Some.side text (opened.stands c.in-Some.side text told))
-    (c.requires.digests c.in-Some.side text told))
+    pass_changed (c.in_ok-old_reel.ensures.passes c.args.plan.now.limits c.args.desk.now) (c.start-merge.ensures.desk _)
+    (c.start-merge.ensures.opened _ c.in_ok-old_reel.ensures.gives)
+    c.put_entries.ensures.keeps c.close_both.ensures.keeps c.close_both.ensures.openings c.in-Some.ensures.changed c.requires.digests
 
 pub returns-in-Some-clause-writes : goal.returns-in-Some-clause-writes
 returns-in-Some-clause-writes g c old new told_old told_new =
@@ -67,12 +56,10 @@ returns-in-Some-clause-writes g c old new told_old told_new =
 
 pub returns-in-Err-clause-passes : goal.returns-in-Err-clause-passes
 returns-in-Err-clause-passes g c =
-    let bytes_of = g.S.Sources.bytes_of c.args.sources.now in
-    let begun = passes_begun (c.in_ok-old_reel.ensures.passes c.args.plan.now.limits c.args.desk.now)
-    (c.start-merge.ensures.desk bytes_of) in
-    let opened = c.start-merge.ensures.opened bytes_of c.in_ok-old_reel.ensures.gives in
     let closed = c.close_both-in-Err.ensures in
-    rw c.pass_fault.ensures (pass_stopped c.in-Err.fault c.put_entries.new.pen.sent c.put_entries.new.pen begun opened
+    rw c.pass_fault.ensures (pass_stopped c.in-Err.fault c.put_entries.new.pen.sent c.put_entries.new.pen
+    (c.in_ok-old_reel.ensures.passes c.args.plan.now.limits c.args.desk.now) (c.start-merge.ensures.desk _)
+    (c.start-merge.ensures.opened _ c.in_ok-old_reel.ensures.gives)
     c.put_entries.ensures.keeps
     closed.keeps closed.openings closed.rose closed.unfailed c.in-Err.ensures.fault)
 
@@ -94,8 +81,7 @@ returns-in-Err-clause-pen g c = record {
 
 pub put_entries-requires-clause-ready : goal.put_entries-requires-clause-ready
 put_entries-requires-clause-ready g c =
-    let bytes_of = g.S.Sources.bytes_of c.args.sources.now in
-    let opened = c.start-merge.ensures.opened bytes_of c.in_ok-old_reel.ensures.gives in
+    let opened = c.start-merge.ensures.opened (g.S.Sources.bytes_of c.args.sources.now) c.in_ok-old_reel.ensures.gives in
     opened.ready
 
 pub returns-in_err-old_reel-clause-pen : goal.returns-in_err-old_reel-clause-pen
