@@ -37,6 +37,10 @@ pub fn changed_side<R: Reel>(merge: &Merge<R>, digests: &Digests) -> Option<Side
     ensures changed { IfSome result (λ side. (list : List ℕ) (under : List Column) (text : List ℕ)
         → StandsFor R.to_come (cursor_at merge.now side) list under text
         → digest_on digests.now side ≡ sha256 text → ⊥) }
+    ensures old_first { IfSome result (λ side. side ≡ Side.New → (list : List ℕ)
+        (under : List Column) (text : List ℕ)
+        → StandsFor R.to_come (cursor_at merge.now Side.Old) list under text
+        → digest_on digests.now Side.Old ≡ sha256 text) }
     ensures same { IfNone result ((side : Side) (list : List ℕ) (under : List Column)
         (text : List ℕ)
         → StandsFor R.to_come (cursor_at merge.now side) list under text
