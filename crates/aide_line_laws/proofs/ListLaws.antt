@@ -43,7 +43,7 @@ module _ (list : ListRead) (old new trusted_old trusted_new : List ℕ) where
   abbrev there : PathChange → Pair
   there change = (get (database_of trusted_old) change.0, get (database_of trusted_new) change.0)
 
-  -- What the old entry or a trusted machine accounts for, they account for beside any list.
+  -- What the old entry or a trusted machine accounts for, they account for with any list.
   pub entries_come_first : (change : PathChange) (account : Account)
       → by_pairs trusted_old trusted_new change ≡ Some account
       → by_texts list old new trusted_old trusted_new change ≡ Some account
@@ -62,7 +62,7 @@ module _ (list : ListRead) (old new trusted_old trusted_new : List ℕ) where
       account_by (same_as change.1 (there change))
       (nothing_left_out list.rules (measures_between old new) change.0 change.1 empty i)
 
-  -- What accounts for a change beside a list does so beside a list with more rules behind: the same entry, or the same line.
+  -- What accounts for a change with a list does so with a list that has more rules behind: the same entry, or the same line.
   pub longer_list_keeps : (longer : ListRead) (more : List RuleText) → longer.rules ≡ list.rules ++ more
       → (change : PathChange) (account : Account) → by_texts list old new trusted_old trusted_new change ≡ Some account
       → by_texts longer old new trusted_old trusted_new change ≡ Some account

@@ -40,7 +40,7 @@ use Rattle.aide_line_run.specs.Listed.{Leaves, ListRead, leaves_between}
 use Rattle.aide_line_run.specs.Sought.{Accounted, accounted_line, accounted_lines, changes_of, sought_by}
 use Rattle.aide_line_run.specs.code.Over.{AreDone}
 use Rattle.aide_line_run.specs.code.Readings.{AreOpened}
-use Rattle.aide_line_run.specs.code.Written.{ArePairsRead, CutsChanges, CutsLast, HasToldAll, IsWrite, lines_begun, told_beside}
+use Rattle.aide_line_run.specs.code.Written.{ArePairsRead, CutsChanges, CutsLast, HasToldAll, IsWrite, lines_begun, lines_found}
 use Rattle.aide_line_run.specs.declared.pair_fault.PairFault.{PairFault}
 use Rattle.aide_line_run.specs.declared.pair_fault.PairFault.TheVariants.{Compared, Trusted}
 use Rattle.aide_line_run.specs.declared.walk.Merges.{Merges}
@@ -192,7 +192,7 @@ module _ {R : Type 0} {r : Reels R} {limits : Limits} {a b s t : Seen} {m : Merg
             (q.opened.stands Old trusted_old told_trusted_old) (q.opened.stands New trusted_new told_trusted_new) (sorted_left in_order)
 
         -- what was written is the answer
-        pub told_is : told_beside list wish trusted_wish told.done found
+        pub told_is : lines_found list wish trusted_wish told.done found
             ≡ (lines_of_texts list wish trusted_wish old new trusted_old trusted_new).text
         told_is =
             let is = texts_read old new (compared_read told.read) told_old told_new in

@@ -1,7 +1,6 @@
 //! Two databases, compared with the help of a trusted pair: what accounts for each change.
 #![tactic(auto)]
 
-mod trusted;
 mod change;
 mod change_lines;
 mod in_order;
@@ -11,6 +10,7 @@ mod opening;
 mod pair_fault;
 mod run;
 mod settle;
+mod trusted;
 mod walk;
 mod write;
 

@@ -10,10 +10,10 @@ ghost use Rattle.aide_line_run.specs.code.Settled.{IsPairStopped};
 ghost use Rattle.aide_line_run.specs.code.Walked.{CanWalk, HasEnded, HasWalked, IsAtEnd};
 ghost use Rattle.aide_line_run.specs.code.Walked.{KeepsMerges};
 
-use crate::trusted::{account_of, seek};
 use crate::change_lines::put_counted;
 use crate::line_counts::no_counts;
 use crate::list::LeftOutList;
+use crate::trusted::{account_of, seek};
 use aide_conf::Options;
 use aide_db::{DbFault, Desk, Reel};
 use aide_line_text::LineCounts;

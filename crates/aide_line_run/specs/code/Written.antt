@@ -41,9 +41,9 @@ abbrev pub lines_begun : (asked trusted : Asked) → List Accounted → List ℕ
 lines_begun asked trusted done = first_line asked trusted ++ accounted_lines asked.options done
 
 -- all lines
-abbrev pub told_beside : ListRead → (asked trusted : Asked) → List Accounted → PairsFound
+abbrev pub lines_found : ListRead → (asked trusted : Asked) → List Accounted → PairsFound
     → List ℕ
-told_beside list asked trusted done found = lines_begun asked trusted done
+lines_found list asked trusted done found = lines_begun asked trusted done
     ++ last_line list (facts_found found) found.counts
 
 -- Both pairs were read to their ends.
@@ -65,7 +65,7 @@ pub record HasToldAll {R : Type 0} (r : Reels R) (list : ListRead)
   pub counted : found.counts ≡ tally_of asked.options done
   pub counts : OverMerges r list m.compared d m.trusted u (λ leaves all trusted_changes.
       found.counts ≡ tally asked.options (sought_by leaves trusted_changes) all)
-  pub goes : Goes (told_beside list asked trusted done found)
+  pub goes : Goes (lines_found list asked trusted done found)
 
 -- A beginning of the lines has been written, and no byte of the last one.
 pub record CutsChanges {R : Type 0} (r : Reels R) (list : ListRead) (asked trusted : Asked)
