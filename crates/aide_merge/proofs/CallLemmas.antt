@@ -14,7 +14,7 @@ use Rattle.aide_db.specs.declared.side.Side.{Side}
 use Rattle.aide_db.specs.declared.side.Side.TheVariants.{Old, New}
 use Rattle.aide_db.specs.declared.step.Step.{Step}
 use Rattle.aide_merge.specs.code.MergeCalls.{IsAdvanced, KeepsCursor, IsCursorFault, KeepsMerge, IsMergeFault}
-use Rattle.aide_merge.specs.code.Merging.{StandsAt, limits_at}
+use Rattle.aide_merge.specs.code.Merging.{IsWithinLimits, StandsAt, limits_at}
 use Rattle.aide_merge.specs.Standing.{IsFaultOf}
 use Rattle.aide_merge.specs.declared.merge.NextEntry.{NextEntry}
 use Rattle.aide_merge.specs.declared.merge.Merge.{Merge}
@@ -84,6 +84,15 @@ both_keep r m n d middle e is_old is_new kept_new kept_old old new = search (rul
 pub passed_on : {R : Type 0} (r : Reels R) (m : Merge R) (d : DeskView) (old_next new_next : NextEntry)
     → KeepsMerge r m (record m { old_next = old_next; new_next = new_next }) d d
 passed_on r m d old_next new_next = assumption
+
+pub still_within : {R : Type 0} (m : Merge R) (old_next new_next : NextEntry) → IsWithinLimits m
+    → IsWithinLimits (record m { old_next = old_next; new_next = new_next })
+still_within m old_next new_next w = record {
+  old_used = w.old_used;
+  new_used = w.new_used;
+  old_limits = w.old_limits;
+  new_limits = w.new_limits;
+}
 
 -- a fault of the old side's cursor
 pub old_fault : {R : Type 0} (r : Reels R) (m n : Merge R) (d : DeskView) (fault : DbFault) → m.old_cursor.side ≡ Old

@@ -26,7 +26,7 @@ use Rattle.aide_merge.specs.declared.merge.NextEntry.{NextEntry}
 use Rattle.aide_merge.specs.declared.merge.NextEntry.TheVariants.{Due, Here, Ended as AtEnd}
 
 -- an empty list has no entry
-none_at : (columns : List Column) (list : List ℕ) → list ≡ [] → IsSome (entry_at columns list) → ⊥
+pub none_at : (columns : List Column) (list : List ℕ) → list ≡ [] → IsSome (entry_at columns list) → ⊥
 none_at columns [] e there = cc
 none_at columns (byte ∷ more) e there = cc
 
@@ -44,7 +44,7 @@ stage_columns (Failed fault) bytes c list held text is unfailed holds there s = 
 stage_columns _ bytes c list held text is unfailed holds there s = search (rules, none_at)
 
 -- a side that is not due has an entry on the desk, or has ended
-here_or_ended : (there : Type 0) (stage : Stage) (next : NextEntry) → next ≢ Due → (next ≡ Here → there) → (next ≡ AtEnd → stage ≡ Ended)
+pub here_or_ended : (there : Type 0) (stage : Stage) (next : NextEntry) → next ≢ Due → (next ≡ Here → there) → (next ≡ AtEnd → stage ≡ Ended)
     → there ⊎ (stage ≡ Ended)
 here_or_ended there stage Due due here ended = absurd (due refl)
 here_or_ended there stage Here due here ended = inl (here refl)

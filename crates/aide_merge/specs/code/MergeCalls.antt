@@ -19,7 +19,8 @@ use Rattle.aide_merge.specs.Compare.{Change}
 use Rattle.aide_merge.specs.code.ChangeView.{ShowsPath}
 use Rattle.aide_merge.specs.code.NextEntry.{ahead, work}
 use Rattle.aide_merge.specs.Merged.{merged}
-use Rattle.aide_merge.specs.code.Merging.{IsEnded, IsNotDue, IsReady, StandsAt, limits_at}
+use Rattle.aide_merge.specs.code.Merging.{IsEnded, IsNotDue, IsReady, IsWithinLimits, StandsAt}
+use Rattle.aide_merge.specs.code.Merging.{limits_at}
 use Rattle.aide_merge.specs.code.Merging.{reels_failed, remaining, total_work}
 use Rattle.aide_merge.specs.Room.{IsNotMemory}
 use Rattle.aide_merge.specs.Standing.{rest_of, left_of, IsUnfailed, IsFaultOf}
@@ -69,6 +70,8 @@ pub record IsAdvanced {R : Type 0} (r : Reels R) (side : Side) (c n : CursorView
       → after ≡ Here → IsSome (desk_entry side e)
   -- a side that has ended was read to its end
   pub ended : (before ≡ Ended → c.stage ≡ AtEnd) → after ≡ Ended → n.stage ≡ AtEnd
+  -- the cursor has not used more bytes than its limits allow
+  pub within : c.used ≤ c.limits.bytes → n.used ≤ n.limits.bytes
   -- the bound on the entries to come has not grown
   pub falls : work after (left_of n) ≤ work before (left_of c)
   -- the same entries are still ahead
@@ -84,6 +87,7 @@ pub record IsOpened {R : Type 0} (r : Reels R) (limits : Limits)
   -- its cursors are of their sides and have not failed
   pub ready : IsReady m desk
   pub limits_of : (side : Side) → limits_at m side ≡ limits
+  pub within : IsWithinLimits m
   -- it has fewer changes to give than the counts can count
   pub short : total_work m < 2 ^ 62
   -- each cursor reads the text that its side gives
@@ -115,8 +119,16 @@ pub record HasRead {R : Type 0} (r : Reels R) (m n : Merge R) (d e : DeskView) :
   -- the next path can be passed on
   pub ready : IsReady n e
   pub not_due : IsNotDue n
+  pub within : IsWithinLimits m → IsWithinLimits n
   -- the bound on the changes to come has not grown
   pub falls : total_work n ≤ total_work m
+  -- each side has the same entries ahead
+  pub old_ahead : (old : List ℕ) → StandsAt r.to_come m d Old old
+      → ahead n.old_next (desk_entry Old e) (rest_of n.old_cursor old)
+      ≡ ahead m.old_next (desk_entry Old d) (rest_of m.old_cursor old)
+  pub new_ahead : (new : List ℕ) → StandsAt r.to_come m d New new
+      → ahead n.new_next (desk_entry New e) (rest_of n.new_cursor new)
+      ≡ ahead m.new_next (desk_entry New d) (rest_of m.new_cursor new)
   -- the same changes are still to come
   pub same : (old new : List ℕ) → StandsAt r.to_come m d Old old → StandsAt r.to_come m d New new
       → remaining m d old new ≡ remaining n e old new
@@ -125,6 +137,7 @@ pub record HasRead {R : Type 0} (r : Reels R) (m n : Merge R) (d e : DeskView) :
 pub record IsStep {R : Type 0} (m n : Merge R) (d : DeskView) (path : AtPath) : Type 0 where
   -- the merge can be asked again
   pub ready : IsReady n d
+  pub within : IsWithinLimits m → IsWithinLimits n
   -- it comes nearer to its end
   pub falls : path ≢ End → total_work n < total_work m
   -- what was still to come is the change at the path, and then what still comes

@@ -1,5 +1,5 @@
 -- A merge of two cursors: what it represents, and what it has still to give.
-use Rattle.std.specs.Prelude.{◌≡◌, ◌≢◌, ℕ, ◌+◌, Option, List, IsSome}
+use Rattle.std.specs.Prelude.{◌≡◌, ◌≢◌, ◌≤◌, ℕ, ◌+◌, Option, List, IsSome}
 use Rattle.aide_entry.specs.Attributes.{Attributes}
 use Rattle.aide_db.specs.CursorView.{CursorView}
 use Rattle.aide_db.specs.Desk.{desk_entry}
@@ -12,6 +12,7 @@ use Rattle.aide_merge.specs.Compare.{Change}
 use Rattle.aide_merge.specs.code.NextEntry.{ahead, work}
 use Rattle.aide_merge.specs.Merged.{merged}
 use Rattle.aide_db.specs.Answer.{Stands}
+use Rattle.aide_merge.specs.Seen.{AreLimits}
 use Rattle.aide_merge.specs.Standing.{rest_of, left_of, IsUnfailed}
 use Rattle.aide_db.specs.declared.stage.Stage.TheVariants.{Ended as AtEnd}
 use Rattle.aide_merge.specs.declared.merge.NextEntry.TheVariants.{Due, Here, Ended}
@@ -60,6 +61,13 @@ limits_at m side = (cursor_at m side).limits
 abbrev pub StandsAt : {R : Type 0} → (R → Option (List ℕ)) → Merge R → DeskView → Side → List ℕ
     → Type 0
 StandsAt to_come m desk side text = Stands to_come (cursor_at m side) desk text
+
+-- Neither cursor has used more bytes than its limits allow, and it could be started with these limits.
+pub record IsWithinLimits {R : Type 0} (m : Merge R) : Type 0 where
+  pub old_used : m.old_cursor.used ≤ m.old_cursor.limits.bytes
+  pub new_used : m.new_cursor.used ≤ m.new_cursor.limits.bytes
+  pub old_limits : AreLimits m.old_cursor.limits
+  pub new_limits : AreLimits m.new_cursor.limits
 
 -- how often the reels of both sides have failed
 abbrev pub reels_failed : {R : Type 0} → (R → ℕ) → Merge R → ℕ

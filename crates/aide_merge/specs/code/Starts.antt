@@ -23,6 +23,8 @@ pub record IsStarted {R : Type 0} (r : Reels R) (limits : Limits)
   pub of_side : c.side ≡ side
   pub limits_of : c.limits ≡ limits
   pub unfailed : IsUnfailed c.stage
+  -- it has used no bytes
+  pub used : c.used ≡ 0
   -- the cursor reads the text that the side gives
   pub stands : (text : List ℕ) → bytes_of side ≡ Some text → Stands r.to_come c desk text
   -- every entry of the text is still to come

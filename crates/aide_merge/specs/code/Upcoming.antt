@@ -5,7 +5,7 @@ use Rattle.aide_db.specs.DeskView.{DeskView}
 use Rattle.aide_db.specs.declared.side.Side.TheVariants.{Old, New}
 use Rattle.aide_merge.specs.Said.{PathChange}
 use Rattle.aide_merge.specs.code.ChangeView.{change_of}
-use Rattle.aide_merge.specs.code.Merging.{IsReady, remaining, total_work}
+use Rattle.aide_merge.specs.code.Merging.{IsReady, IsWithinLimits, remaining, total_work}
 use Rattle.aide_merge.specs.code.NextEntry.{next_entry}
 use Rattle.aide_merge.specs.code.NextPath.{next_change}
 use Rattle.aide_merge.specs.declared.change.Change.{Change}
@@ -27,6 +27,7 @@ pub record IsPassedOn {R : Type 0} (m n : Merge R) (d : DeskView)
     (change : PathChange) : Type 0 where
   -- the merge can be asked again
   pub ready : IsReady n d
+  pub within : IsWithinLimits m → IsWithinLimits n
   -- it comes nearer to its end
   pub falls : total_work n < total_work m
   -- what was still to come is the change, and then what still comes

@@ -18,6 +18,7 @@ returns-clause-started g c bytes_of gives =
       of_side = start.begins.side;
       limits_of = start.begins.limits;
       unfailed = unfailed_start c.start.result.stage start.begins.stage;
+      used = start.begins.used;
       stands = stands;
       rest = search rules;
       within = λ longest. within_started g.R.Reel.to_come c.args.limits bytes_of c.args.side c.start.result c.start.new.desk longest

@@ -1,5 +1,5 @@
 use Rattle.aide_merge.specs.code.Upcoming.{upcoming}
-use Rattle.aide_merge.proofs.CallLemmas.{passed_on}
+use Rattle.aide_merge.proofs.CallLemmas.{passed_on, still_within}
 use Rattle.aide_merge.proofs.UpcomingLemmas.{next_falls, next_given, still_ready}
 use Rattle.aide_merge.proofs.merge.Merge.pass_on.Goals as goal
 
@@ -16,6 +16,7 @@ returns-clause-passed g c =
     let not_due = c.requires.not_due in
     rw (c.release.ensures (upcoming m d) c.requires.shown) (record {
       ready = still_ready m d ready not_due;
+      within = still_within m _ _;
       falls = next_falls m d ready not_due (λ none. cc);
       gives = next_given m d ready not_due _ c.requires.shown;
     })

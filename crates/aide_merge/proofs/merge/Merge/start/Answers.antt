@@ -34,6 +34,12 @@ returns-clause-opened g c bytes_of gives =
         old_ended = λ e. cc;
         new_ended = λ e. cc;
       };
+      within = record {
+        old_used = omega (arith, old.used);
+        new_used = omega (arith, new.used);
+        old_limits = rw old.limits_of c.requires;
+        new_limits = rw new.limits_of c.requires;
+      };
       limits_of = limits_each merge c.args.limits old.limits_of new.limits_of;
       short = omega (arith, ap (λ (l : Limits). l.bytes) old.limits_of, ap (λ (l : Limits). l.bytes) new.limits_of, c.requires.bytes);
       stands = of_sides (λ side text. bytes_of side ≡ Some text) (StandsAt to_come merge desk)
