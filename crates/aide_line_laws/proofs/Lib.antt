@@ -20,6 +20,7 @@ pub mod JsonLaws
 pub mod AccountLaws
 pub mod ListLaws
 pub mod MapLaws
+mod FrontExamples
 pub mod NoEntries
 pub mod RunMapLaws
 pub mod Examples

@@ -35,17 +35,21 @@ use Rattle.aide_line_run.proofs.OneReadingLemmas.{are_read}
 use Rattle.aide_merge.proofs.TextLemmas.{pass_is_changes}
 use Rattle.aide_line_run.specs.Lines.{BeginsLines, lines_framed, by_texts, last_line, facts_of_texts}
 use Rattle.aide_line_run.specs.Lines.{lines_of_texts, first_line}
-use Rattle.aide_line_run.specs.RunEnds.{AreAllSound, CutsLines, RunsLines, SendsWholeOf, answer_by}
+use Rattle.aide_line_run.specs.BeforeFault.{AreBeforeFaults, FourTexts}
+use Rattle.aide_line_run.specs.RunEnds.{AreAllSound, CutsFronts, CutsLines, RunsLines, SendsWholeOf, answer_by}
+use Rattle.aide_line_run.specs.RunEnds.{lines_before_last}
 use Rattle.aide_line_run.specs.Listed.{Leaves, ListRead, leaves_between}
 use Rattle.aide_line_run.specs.Sought.{Accounted, accounted_line, accounted_lines, changes_of, sought_by}
-use Rattle.aide_line_run.specs.code.Over.{AreDone}
+use Rattle.aide_line_run.specs.code.Over.{AreDone, ReadsUpTo}
 use Rattle.aide_line_run.specs.code.Readings.{AreOpened}
 use Rattle.aide_line_run.specs.code.Written.{ArePairsRead, CutsChanges, CutsLast, HasToldAll, IsWrite, lines_begun, lines_found}
 use Rattle.aide_line_run.specs.declared.pair_fault.PairFault.{PairFault}
 use Rattle.aide_line_run.specs.declared.pair_fault.PairFault.TheVariants.{Compared, Trusted}
 use Rattle.aide_line_run.specs.declared.walk.Merges.{Merges}
 use Rattle.aide_line_run.specs.declared.write.PairsFound.{PairsFound}
-use Rattle.aide_line_run.proofs.Laws.{pass_sorted, sought_is}
+use Rattle.aide_line_run.proofs.FrontLaws.{front_is_changes}
+use Rattle.aide_line_run.proofs.FrontLemmas.{reads_front}
+use Rattle.aide_line_run.proofs.Laws.{maps_sorted, maps_sought, pass_sorted, sought_is}
 use Rattle.aide_line_run.proofs.PairLemmas.{IsOkay, okay_over}
 
 true_false : true ≡ false → ⊥
@@ -87,6 +91,14 @@ module _ (limits : Limits) (list : ListRead) (wish trusted_wish : Asked) (old ne
   cut_none (Compared (Write written)) = (λ sound. part_none _ bytes, λ unsound. begins_none _ wish trusted_wish _ _ bytes)
   cut_none (Trusted fault) = begins_none _ wish trusted_wish _ _ bytes
 
+pub fronts_none : (limits : Limits) (list : ListRead) (wish trusted_wish : Asked) (texts fronts : FourTexts) (bytes : Option (List ℕ))
+    (fault : PairFault) → CutsFronts limits list wish trusted_wish texts fronts bytes bytes fault
+fronts_none limits list wish trusted_wish texts fronts bytes (Compared (Write written)) = λ unsound. part_none _ bytes
+fronts_none limits list wish trusted_wish texts fronts bytes (Compared (Open side)) = part_none _ bytes
+fronts_none limits list wish trusted_wish texts fronts bytes (Compared (Database fault)) = part_none _ bytes
+fronts_none limits list wish trusted_wish texts fronts bytes (Compared (Changed side)) = part_none _ bytes
+fronts_none limits list wish trusted_wish texts fronts bytes (Trusted fault) = part_none _ bytes
+
 -- ---- both pairs were read to their ends
 
 module _ {R : Type 0} {r : Reels R} {limits : Limits} {a b s t : Seen} {m : Merges R} {e v : DeskView}
@@ -98,10 +110,8 @@ module _ {R : Type 0} {r : Reels R} {limits : Limits} {a b s t : Seen} {m : Merg
     pub trusted_read : AreRead limits s found.trusted
     trusted_read = are_read q.there q.opened read.keeps.trusted read.trusted_ended read.trusted_read
 
-  -- four texts that are told
-  module _ (list : ListRead) (wish trusted_wish : Asked) (old new trusted_old trusted_new : List ℕ)
-      (told_old : a.bytes_of Old ≡ Some old) (told_new : a.bytes_of New ≡ Some new)
-      (told_trusted_old : s.bytes_of Old ≡ Some trusted_old) (told_trusted_new : s.bytes_of New ≡ Some trusted_new) where
+  -- four texts, or what of them comes before their first faults
+  module _ (list : ListRead) (wish trusted_wish : Asked) (old new trusted_old trusted_new : List ℕ) where
     abbrev lines_sought : List ℕ
     lines_sought = change_lines wish.options (sought_by (leaves_between list old new) (pass_of trusted_old trusted_new))
         (pass_of old new)
@@ -121,11 +131,13 @@ module _ {R : Type 0} {r : Reels R} {limits : Limits} {a b s t : Seen} {m : Merg
     done_begins : (done : List Accounted) (before after : Option (List ℕ)) (fault : PairFault)
         → AreDone {X = PairsFound} r list wish.options m e v done (Err fault)
         → SendsPart (lines_begun wish trusted_wish done) before after
+        → ReadsUpTo r.to_come m.compared e Old old → ReadsUpTo r.to_come m.compared e New new
+        → ReadsUpTo r.to_come m.trusted v Old trusted_old → ReadsUpTo r.to_come m.trusted v New trusted_new
         → BeginsLines (leaves_between list old new) wish trusted_wish (pass_of old new) (pass_of trusted_old trusted_new)
         before after
-    done_begins done before after fault are part =
+    done_begins done before after fault are part of_old of_new of_trusted_old of_trusted_new =
         let opening = first_line wish trusted_wish in
-        let rest = are.changes old new (p.opened.stands Old old told_old) (p.opened.stands New new told_new) in
+        let rest = are.changes old new of_old of_new in
         record {
           accounted = done ++ unaccounted rest.0;
           all = map-append (λ (each : Accounted). each.0) done (unaccounted rest.0)
@@ -134,12 +146,26 @@ module _ {R : Type 0} {r : Reels R} {limits : Limits} {a b s t : Seen} {m : Merg
               (ap (λ l. opening ++ l) (flat_map-append (accounted_line wish.options) done (unaccounted rest.0))
               ∙ sym (append_assoc opening (accounted_lines wish.options done) (accounted_lines wish.options (unaccounted rest.0)))) part;
           sought = λ in_order.
-              let lines = are.lines old new trusted_old trusted_new (p.opened.stands Old old told_old) (p.opened.stands New new told_new)
-              (q.opened.stands Old trusted_old told_trusted_old) (q.opened.stands New trusted_new told_trusted_new)
-              (sorted_left in_order) in
+              let lines = are.lines old new trusted_old trusted_new of_old of_new of_trusted_old of_trusted_new (sorted_left in_order) in
               part_longer lines.0 _ (ap (λ l. opening ++ l) (sym left_are ∙ lines.1)
               ∙ sym (append_assoc opening (accounted_lines wish.options done) lines.0)) part;
         }
+
+  -- four texts that are told
+  module _ (list : ListRead) (wish trusted_wish : Asked) (old new trusted_old trusted_new : List ℕ)
+      (told_old : a.bytes_of Old ≡ Some old) (told_new : a.bytes_of New ≡ Some new)
+      (told_trusted_old : s.bytes_of Old ≡ Some trusted_old) (told_trusted_new : s.bytes_of New ≡ Some trusted_new) where
+    of_old : ReadsUpTo r.to_come m.compared e Old old
+    of_old = (old, p.opened.stands Old old told_old, inl refl)
+
+    of_new : ReadsUpTo r.to_come m.compared e New new
+    of_new = (new, p.opened.stands New new told_new, inl refl)
+
+    of_trusted_old : ReadsUpTo r.to_come m.trusted v Old trusted_old
+    of_trusted_old = (trusted_old, q.opened.stands Old trusted_old told_trusted_old, inl refl)
+
+    of_trusted_new : ReadsUpTo r.to_come m.trusted v New trusted_new
+    of_trusted_new = (trusted_new, q.opened.stands New trusted_new told_trusted_new, inl refl)
 
     -- ---- sound texts
 
@@ -149,7 +175,7 @@ module _ {R : Type 0} {r : Reels R} {limits : Limits} {a b s t : Seen} {m : Merg
 
       -- what comes before the last line
       text_begun : (lines_of_texts list wish trusted_wish old new trusted_old trusted_new).text
-          ≡ (first_line wish trusted_wish ++ lines_sought)
+          ≡ (first_line wish trusted_wish ++ lines_sought list wish trusted_wish old new trusted_old trusted_new)
           ++ last_line list (facts_of_texts old new trusted_old trusted_new)
           (line_counts wish.options (by_texts list old new trusted_old trusted_new) (database_of old) (database_of new))
       unfolding lines_of_texts lines_framed
@@ -180,16 +206,16 @@ module _ {R : Type 0} {r : Reels R} {limits : Limits} {a b s t : Seen} {m : Merg
         counted : found.counts ≡ line_counts wish.options (by_texts list old new trusted_old trusted_new)
             (database_of old) (database_of new)
         counted =
-            told.counts old new trusted_old trusted_new (p.opened.stands Old old told_old) (p.opened.stands New new told_new)
-            (q.opened.stands Old trusted_old told_trusted_old) (q.opened.stands New trusted_new told_trusted_new) (sorted_left in_order)
+            told.counts old new trusted_old trusted_new of_old of_new of_trusted_old of_trusted_new
+            (sorted_left list wish trusted_wish old new trusted_old trusted_new in_order)
             ∙ (λ i. tally wish.options (sought_by (leaves_between list old new) (q.opened.rest trusted_old trusted_new i))
             (p.opened.rest old new i))
             ∙ counts_of_pass
 
-        all_lines : lines_sought ≡ accounted_lines wish.options told.done
-        all_lines = sym left_are
-            ∙ told.are.lines old new trusted_old trusted_new (p.opened.stands Old old told_old) (p.opened.stands New new told_new)
-            (q.opened.stands Old trusted_old told_trusted_old) (q.opened.stands New trusted_new told_trusted_new) (sorted_left in_order)
+        all_lines : lines_sought list wish trusted_wish old new trusted_old trusted_new ≡ accounted_lines wish.options told.done
+        all_lines = sym (left_are list wish trusted_wish old new trusted_old trusted_new)
+            ∙ told.are.lines old new trusted_old trusted_new of_old of_new of_trusted_old of_trusted_new
+            (sorted_left list wish trusted_wish old new trusted_old trusted_new in_order)
 
         -- what was written is the answer
         pub told_is : lines_found list wish trusted_wish told.done found
@@ -247,12 +273,65 @@ module _ {R : Type 0} {r : Reels R} {limits : Limits} {a b s t : Seen} {m : Merg
         → CutsChanges r list wish trusted_wish m e v before after fault ⊎ CutsLast r list wish trusted_wish m n e f v w before after fault
         → CutsLines limits list wish trusted_wish old new trusted_old trusted_new before after fault
     cut_by before after fault cut = elim cut [
-      | inl early ↦ cut_changes before after fault (done_begins early.done before after fault early.are early.part)
+      | inl early ↦ cut_changes before after fault (done_begins list wish trusted_wish old new trusted_old trusted_new
+          early.done before after fault early.are early.part of_old of_new of_trusted_old of_trusted_new)
       | inr last ↦
           let sound = all_sound last.told.read in
           cut_last before after fault last.written sound
           (subst (λ text. SendsPart text before after) (told_is sound last.told) last.told.goes)
     ]
+
+    -- ---- the same, by what comes before the first faults
+
+    module _ (fronts : FourTexts) where
+      abbrev texts : FourTexts
+      texts = record { old = old; new = new; trusted_old = trusted_old; trusted_new = trusted_new }
+
+      fronts_early : (before after : Option (List ℕ)) (fault : PairFault)
+          → SendsPart (lines_before_last list wish trusted_wish fronts) before after
+          → CutsFronts limits list wish trusted_wish texts fronts before after fault
+      fronts_early before after (Compared (Open side)) part = part
+      fronts_early before after (Compared (Database fault)) part = part
+      fronts_early before after (Compared (Changed side)) part = part
+      fronts_early before after (Compared (Write written)) part = λ unsound. part
+      fronts_early before after (Trusted fault) part = part
+
+      -- by the maps of what comes before the first faults
+      over_maps : AreBeforeFaults limits texts fronts → (before after : Option (List ℕ))
+          → BeginsLines (leaves_between list fronts.old fronts.new) wish trusted_wish (pass_of fronts.old fronts.new)
+          (pass_of fronts.trusted_old fronts.trusted_new) before after
+          → SendsPart (lines_before_last list wish trusted_wish fronts) before after
+      over_maps are before after begins =
+          let compared = front_is_changes limits old new fronts.old fronts.new are.of_old are.of_new in
+          let trusted = front_is_changes limits trusted_old trusted_new fronts.trusted_old fronts.trusted_new are.of_trusted_old
+          are.of_trusted_new in
+          subst (λ (text : List ℕ). SendsPart text before after) (λ i. first_line wish trusted_wish ++ change_lines wish.options
+          (maps_sought (leaves_between list fronts.old fronts.new) fronts.trusted_old fronts.trusted_new trusted i) (sym compared i))
+          (begins.sought (maps_sorted fronts.old fronts.new compared))
+
+      fronts_late : (before after : Option (List ℕ)) (fault : PairFault) → IsWrite fault
+          → AreAllSound limits old new trusted_old trusted_new
+          → CutsFronts limits list wish trusted_wish texts fronts before after fault
+      fronts_late before after (Compared (Open side)) written sound = absurd written
+      fronts_late before after (Compared (Database fault)) written sound = absurd written
+      fronts_late before after (Compared (Changed side)) written sound = absurd written
+      fronts_late before after (Compared (Write bytes)) written sound = λ unsound. absurd (unsound sound)
+      fronts_late before after (Trusted fault) written sound = absurd written
+
+      pub fronts_by : AreBeforeFaults limits texts fronts → {n : Merges R} {f w : DeskView} (before after : Option (List ℕ))
+          (fault : PairFault)
+          → CutsChanges r list wish trusted_wish m e v before after fault
+          ⊎ CutsLast r list wish trusted_wish m n e f v w before after fault
+          → CutsFronts limits list wish trusted_wish texts fronts before after fault
+      fronts_by are before after fault cut = elim cut [
+        | inl early ↦ fronts_early before after fault (over_maps are before after (done_begins list wish trusted_wish fronts.old fronts.new fronts.trusted_old
+            fronts.trusted_new early.done before after fault early.are early.part
+            (reads_front r.to_come m.compared e Old (p.opened.limits_of Old) (p.opened.stands Old old told_old) are.of_old)
+            (reads_front r.to_come m.compared e New (p.opened.limits_of New) (p.opened.stands New new told_new) are.of_new)
+            (reads_front r.to_come m.trusted v Old (q.opened.limits_of Old) (q.opened.stands Old trusted_old told_trusted_old) are.of_trusted_old)
+            (reads_front r.to_come m.trusted v New (q.opened.limits_of New) (q.opened.stands New trusted_new told_trusted_new) are.of_trusted_new)))
+        | inr last ↦ fronts_late before after fault last.written (all_sound last.told.read)
+      ]
 
 -- ---- the answer over four texts that are there and sound
 

@@ -13,7 +13,7 @@ use Rattle.aide_db.specs.declared.limits.Limits.{Limits}
 use Rattle.aide_entry.specs.Attributes.{Attributes}
 use Rattle.aide_entry.specs.Path.{path_cmp}
 use Rattle.aide_entry.proofs.PathLaws.{path_cmp_total, path_cmp-IsAntisymmetric}
-use Rattle.aide_merge.specs.Compare.{compared}
+use Rattle.aide_merge.specs.Compare.{changes, compared}
 use Rattle.aide_merge.specs.Said.{PathChange}
 use Rattle.aide_merge.specs.code.Merging.{pass_of}
 use Rattle.aide_merge.specs.Merged.{merged}
@@ -64,18 +64,29 @@ found_merged old new q =
     ∙ (λ i. either_of (paired (sym (get-entries old q) i) (sym (get-entries new q) i)))
     ∙ either_paired (get old q) (get new q)
 
+-- the changes of two maps are in path order
+pub maps_sorted : (old new : List ℕ) → changes (database_of old) (database_of new) ≡ pass_of old new
+    → is_sorted path_cmp (pass_of old new) ≡ true
+maps_sorted old new are =
+    T_true _ (subst (λ l. T (is_sorted path_cmp l)) are (entries_sorted (compared (database_of old) (database_of new))))
+
 -- the changes that a pass over two sound texts meets are in path order
 pub pass_sorted : (limits : Limits) (old new : List ℕ) → IsSound limits old → IsSound limits new
     → is_sorted path_cmp (pass_of old new) ≡ true
-pass_sorted limits old new sound_old sound_new =
-    T_true _ (subst (λ l. T (is_sorted path_cmp l)) (pass_is_changes limits old new sound_old sound_new)
-    (entries_sorted (compared (database_of old) (database_of new))))
+pass_sorted limits old new sound_old sound_new = maps_sorted old new (pass_is_changes limits old new sound_old sound_new)
 
--- What a pass with a trusted pair of sound texts takes for the account of a change is what its maps say.
+-- What a pass takes for the account of a change is what the trusted maps say.
+pub maps_sought : (leaves : Leaves) (trusted_old trusted_new : List ℕ)
+    → changes (database_of trusted_old) (database_of trusted_new) ≡ pass_of trusted_old trusted_new
+    → sought_by leaves (pass_of trusted_old trusted_new) ≡ by_trusted leaves (database_of trusted_old) (database_of trusted_new)
+maps_sought leaves trusted_old trusted_new are =
+    ap (sought_by leaves) (sym are
+    ∙ changes-merged path_cmp path_cmp_total path_cmp-IsAntisymmetric (database_of trusted_old) (database_of trusted_new))
+    ∙ (λ i c. account_by (same_as c.1 (found_merged (database_of trusted_old) (database_of trusted_new) c.0 i)) (leaves c))
+
+-- the same of sound texts
 pub sought_is : (leaves : Leaves) (limits : Limits) (trusted_old trusted_new : List ℕ) → IsSound limits trusted_old → IsSound limits
     trusted_new
     → sought_by leaves (pass_of trusted_old trusted_new) ≡ by_trusted leaves (database_of trusted_old) (database_of trusted_new)
 sought_is leaves limits trusted_old trusted_new sound_old sound_new =
-    ap (sought_by leaves) (sym (pass_is_changes limits trusted_old trusted_new sound_old sound_new)
-    ∙ changes-merged path_cmp path_cmp_total path_cmp-IsAntisymmetric (database_of trusted_old) (database_of trusted_new))
-    ∙ (λ i c. account_by (same_as c.1 (found_merged (database_of trusted_old) (database_of trusted_new) c.0 i)) (leaves c))
+    maps_sought leaves trusted_old trusted_new (pass_is_changes limits trusted_old trusted_new sound_old sound_new)

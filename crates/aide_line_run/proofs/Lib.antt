@@ -1,3 +1,5 @@
+pub mod FrontLemmas
+pub mod FrontLaws
 pub mod SoughtLemmas
 pub mod TallyLemmas
 pub mod WalkLemmas

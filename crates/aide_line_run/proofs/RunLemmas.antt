@@ -29,7 +29,7 @@ use Rattle.aide_line_run.specs.declared.pair_fault.PairFault.{PairFault}
 use Rattle.aide_line_run.specs.declared.pair_fault.PairFault.TheVariants.{Compared, Trusted}
 use Rattle.aide_line_run.specs.declared.walk.Merges.{Merges}
 use Rattle.aide_line_run.specs.declared.write.PairsFound.{PairsFound}
-use Rattle.aide_line_run.proofs.EndLemmas.{compared_read, cut_by, cut_none, ends_whole, trusted_read}
+use Rattle.aide_line_run.proofs.EndLemmas.{compared_read, cut_by, cut_none, ends_whole, fronts_by, fronts_none, trusted_read}
 use Rattle.aide_line_run.proofs.ReadLemmas.{faults_of_pairs, four_as, four_behind, leaves_pair, opens_closed, stops_over}
 use Rattle.aide_line_run.proofs.TallyLemmas.{all_accounted, all_alone}
 
@@ -101,6 +101,7 @@ module _ (limits : Limits) (list : ListRead) (wish trusted_wish : Asked) {a b s 
         over = stops_over limits a b s t d.room u.room sink list wish trusted_wish start e trusted_start v fault means;
         cut = λ old new trusted_old trusted_new told trusted_told.
             cut_none limits list wish trusted_wish old new trusted_old trusted_new bytes fault;
+        early = λ texts fronts told trusted_told are. fronts_none limits list wish trusted_wish texts fronts bytes fault;
         unopened = nothing_unopened bytes fault;
         missing = λ side gone. Appends-nothing bytes;
         trusted_missing = λ side gone. Appends-nothing bytes;
@@ -133,6 +134,7 @@ module _ (limits : Limits) (list : ListRead) (wish trusted_wish : Asked) {a b s 
         record {
           over = ends_whole p q list wish trusted_wish (w.delivered out) (w.delivered sent) told;
           cut = λ old new trusted_old trusted_new told trusted_told. tt;
+          early = λ texts fronts told trusted_told are. tt;
           unopened = tt;
           missing = λ side gone. absurd (true_false (sym gone ∙ p.there side));
           trusted_missing = λ side gone. absurd (true_false (sym gone ∙ q.there side));
@@ -178,6 +180,9 @@ module _ (limits : Limits) (list : ListRead) (wish trusted_wish : Asked) {a b s 
           cut = λ old new trusted_old trusted_new told trusted_told.
               cut_by p q list wish trusted_wish old new trusted_old trusted_new told.0 told.1 trusted_told.0 trusted_told.1
               (w.delivered out) (w.delivered sent) fault cut;
+          early = λ texts fronts told trusted_told are.
+              fronts_by p q list wish trusted_wish texts.old texts.new texts.trusted_old texts.trusted_new told.0 told.1 trusted_told.0
+              trusted_told.1 fronts are (w.delivered out) (w.delivered sent) fault cut;
           unopened = first_opened r m n d_open u_open sink (w.delivered out) (w.delivered sent) fault first;
           missing = λ side gone. absurd (true_false (sym gone ∙ p.there side));
           trusted_missing = λ side gone. absurd (true_false (sym gone ∙ q.there side));

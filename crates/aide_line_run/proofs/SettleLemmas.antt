@@ -120,7 +120,13 @@ pub walked_found : {R X Y E F : Type 0} {r : Reels R} {list : ListRead} {options
     → also_in found ≡ counts_in answer
     → HasWalked {E = E} r list options first counts_in m d u a b (Ok answer)
     → HasWalked {E = F} r list options first also_in m d u a b (Ok found)
-walked_found answer found also_in same p = search rules
+walked_found answer found also_in same p = record {
+  done = p.done;
+  are = record { changes = p.are.changes; lines = p.are.lines };
+  wrote = p.wrote;
+  counted = same ∙ p.counted;
+  counts = λ old new trusted_old trusted_new s t x y in_order. same ∙ p.counts old new trusted_old trusted_new s t x y in_order;
+}
 
 -- ---- the fault that is returned
 

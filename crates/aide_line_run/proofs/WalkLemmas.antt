@@ -5,6 +5,7 @@ use Rattle.std.proofs.lemmas.List.{append-nil, map-append}
 use Rattle.aide_agreement.specs.Account.{same_as}
 use Rattle.aide_line_text.specs.declared.account.Account.{Account}
 use Rattle.aide_conf.specs.declared.options.Options.{Options}
+use Rattle.aide_db.specs.CursorView.{CursorView}
 use Rattle.aide_db.specs.DeskView.{DeskView}
 use Rattle.aide_db.specs.declared.reel.Reel.{Ghosts as Reels}
 use Rattle.aide_db.specs.declared.side.Side.TheVariants.{Old, New}
@@ -13,27 +14,30 @@ use Rattle.aide_line_text.specs.declared.counts.LineCounts.{LineCounts}
 use Rattle.aide_merge.specs.Said.{PathChange}
 use Rattle.aide_merge.specs.code.ChangeView.{alike_of}
 use Rattle.aide_line_run.specs.code.LineTally.{sum_of_counts}
-use Rattle.aide_merge.specs.code.Merging.{IsNotDue, IsReady, StandsAt, remaining}
+use Rattle.aide_merge.specs.code.Merging.{IsNotDue, IsReady, IsWithinLimits, remaining}
 use Rattle.aide_merge.specs.declared.merge.Merge.{Merge}
 use Rattle.aide_text.specs.Sheet.{Sheet, Wrote}
 use Rattle.aide_text.proofs.Sheets.{wrote_as, wrote_more, wrote_nothing}
-use Rattle.aide_merge.proofs.ColumnLemmas.{new_columns, old_columns}
 use Rattle.aide_line_run.specs.ListView.{measures_at}
-use Rattle.aide_line_run.specs.Listed.{ListRead, account_by, leaves_between, measures_between}
+use Rattle.aide_line_run.specs.Listed.{ListRead, account_by, leaves_between, measures_between, measures_by}
 use Rattle.aide_line_run.specs.Sought.{Accounted, accounted_line, accounted_lines, all_sought, changes_of, found_at, seek, sought_by}
+use Rattle.aide_line_run.specs.code.Over.{ReadsUpTo}
 use Rattle.aide_line_run.specs.code.Tallied.{tally_of}
 use Rattle.aide_line_run.specs.code.Walked.{HasWalked, IsWalking, KeepsMerges}
 use Rattle.aide_line_run.specs.declared.walk.Merges.{Merges}
 use Rattle.aide_line_run.specs.declared.walk.PairStop.{PairStop}
+use Rattle.aide_line_run.proofs.FrontLemmas.{new_front_columns, old_front_columns, reads_on}
 use Rattle.aide_line_run.proofs.SoughtLemmas.{alike_sought, none_sought, one_sought, sorted_rest, sought_alike, sought_more}
 use Rattle.aide_line_run.proofs.TallyLemmas.{line_alike, lines_next, lines_of_sought, tally_alike, tally_more, tally_next, tally_none}
 use Rattle.aide_line_run.proofs.TallyLemmas.{tally_pairs, tally_start}
 
 -- what a merge that has read what was due measures is what its texts do, also once it has passed on a path
 pub measures_known : {R : Type 0} (to_come : R → Option (List ℕ)) (m n : Merge R) (d : DeskView) (old new : List ℕ)
-    → IsReady m d → IsNotDue m → n.old_cursor ≡ m.old_cursor → n.new_cursor ≡ m.new_cursor
-    → StandsAt to_come m d Old old → StandsAt to_come m d New new → measures_at n ≡ measures_between old new
-measures_known {R} to_come m n d old new ready not_due same_old same_new s t = search (rules, old_columns, new_columns)
+    → IsReady m d → IsWithinLimits m → IsNotDue m → n.old_cursor ≡ m.old_cursor → n.new_cursor ≡ m.new_cursor
+    → ReadsUpTo to_come m d Old old → ReadsUpTo to_come m d New new → measures_at n ≡ measures_between old new
+measures_known {R = R} to_come m n d old new ready within not_due same_old same_new s t = λ i. measures_by
+    ((ap (λ (c : CursorView R). c.columns) same_old ∙ old_front_columns to_come m d ready within old not_due s) i)
+    ((ap (λ (c : CursorView R). c.columns) same_new ∙ new_front_columns to_come m d ready within new not_due t) i)
 
 changes_next : (done : List Accounted) (m : Accounted) (rest : List PathChange)
     → changes_of done ++ (m.0 ∷ rest) ≡ changes_of (done ++ m ∷ []) ++ rest
@@ -59,31 +63,31 @@ module _ {R : Type 0} (r : Reels R) (list : ListRead) (options : Options) (m : M
     -- one change more
     pub walk_more : (c : PathChange) (account : Option Account) (changes : List PathChange) (k : Merges R) (f w : DeskView)
         (after : LineCounts) (z : Sheet)
-        → ((old new : List ℕ) → StandsAt r.to_come n.compared e Old old → StandsAt r.to_come n.compared e New new
+        → ((old new : List ℕ) → ReadsUpTo r.to_come n.compared e Old old → ReadsUpTo r.to_come n.compared e New new
         → remaining n.compared e old new ≡ changes ++ remaining k.compared f old new)
         → changes ≡ c ∷ []
-        → ((old new : List ℕ) → StandsAt r.to_come n.trusted v Old old → StandsAt r.to_come n.trusted v New new
+        → ((old new : List ℕ) → ReadsUpTo r.to_come n.trusted v Old old → ReadsUpTo r.to_come n.trusted v New new
         → remaining k.trusted w old new ≡ seek c.0 (remaining n.trusted v old new))
-        → ((old new trusted_old trusted_new : List ℕ) → StandsAt r.to_come n.compared e Old old
-        → StandsAt r.to_come n.compared e New new
+        → ((old new trusted_old trusted_new : List ℕ) → ReadsUpTo r.to_come n.compared e Old old
+        → ReadsUpTo r.to_come n.compared e New new
         → account ≡ account_by (same_as c.1 (found_at c.0 (remaining k.trusted w trusted_old trusted_new)))
         (leaves_between list old new c))
         → after ≡ sum_of_counts counts (tally_of options ((c, account) ∷ []))
         → Wrote (accounted_line options (c, account)) b z
         → IsWalking r list options m k d f u w after a z
     walk_more c account changes k f w after z gives one sought told grows wrote =
-        let next : (old new : List ℕ) → StandsAt r.to_come m.compared d Old old → StandsAt r.to_come m.compared d New new
+        let next : (old new : List ℕ) → ReadsUpTo r.to_come m.compared d Old old → ReadsUpTo r.to_come m.compared d New new
         → remaining n.compared e old new ≡ changes ++ remaining k.compared f old new =
-        λ old new s t. gives old new (keeps.compared.stands Old old s) (keeps.compared.stands New new t) in
-        let sought : (old new : List ℕ) → StandsAt r.to_come m.trusted u Old old → StandsAt r.to_come m.trusted u New new
+        λ old new s t. gives old new (reads_on keeps.compared Old old s) (reads_on keeps.compared New new t) in
+        let sought : (old new : List ℕ) → ReadsUpTo r.to_come m.trusted u Old old → ReadsUpTo r.to_come m.trusted u New new
         → remaining k.trusted w old new ≡ seek c.0 (remaining n.trusted v old new) =
-        λ old new s t. sought old new (keeps.trusted.stands Old old s) (keeps.trusted.stands New new t) in
-        let means : (old new trusted_old trusted_new : List ℕ) → StandsAt r.to_come m.compared d Old old
-        → StandsAt r.to_come m.compared d New new
+        λ old new s t. sought old new (reads_on keeps.trusted Old old s) (reads_on keeps.trusted New new t) in
+        let means : (old new trusted_old trusted_new : List ℕ) → ReadsUpTo r.to_come m.compared d Old old
+        → ReadsUpTo r.to_come m.compared d New new
         → account ≡ account_by (same_as c.1 (found_at c.0 (remaining k.trusted w trusted_old trusted_new)))
         (leaves_between list old new c) =
         λ old new trusted_old trusted_new s t.
-        told old new trusted_old trusted_new (keeps.compared.stands Old old s) (keeps.compared.stands New new t) in
+        told old new trusted_old trusted_new (reads_on keeps.compared Old old s) (reads_on keeps.compared New new t) in
         record {
           done = p.done ++ (c, account) ∷ [];
           wrote = wrote_as (lines_next options p.done (c, account)) (wrote_more p.wrote wrote);
@@ -117,14 +121,14 @@ module _ {R : Type 0} (r : Reels R) (list : ListRead) (options : Options) (m : M
 
     -- an entry that both have alike
     pub walk_alike : (entry : Entry) (changes : List PathChange) (k : Merge R) (f : DeskView)
-        → ((old new : List ℕ) → StandsAt r.to_come n.compared e Old old → StandsAt r.to_come n.compared e New new
+        → ((old new : List ℕ) → ReadsUpTo r.to_come n.compared e Old old → ReadsUpTo r.to_come n.compared e New new
         → remaining n.compared e old new ≡ changes ++ remaining k f old new)
         → changes ≡ alike_of entry ∷ []
         → IsWalking r list options m (record { compared = k; trusted = n.trusted }) d f u v (record counts { total = counts.total + 1 }) a b
     walk_alike entry changes k f gives one =
-        let next : (old new : List ℕ) → StandsAt r.to_come m.compared d Old old → StandsAt r.to_come m.compared d New new
+        let next : (old new : List ℕ) → ReadsUpTo r.to_come m.compared d Old old → ReadsUpTo r.to_come m.compared d New new
         → remaining n.compared e old new ≡ changes ++ remaining k f old new =
-        λ old new s t. gives old new (keeps.compared.stands Old old s) (keeps.compared.stands New new t) in
+        λ old new s t. gives old new (reads_on keeps.compared Old old s) (reads_on keeps.compared New new t) in
         let after : LineCounts = record counts { total = counts.total + 1 } in
         record {
           done = p.done ++ (alike_of entry, None) ∷ [];
@@ -158,13 +162,13 @@ module _ {R : Type 0} (r : Reels R) (list : ListRead) (options : Options) (m : M
         }
 
     -- the end of the compared pair
-    pub walk_ended : ((old new : List ℕ) → StandsAt r.to_come n.compared e Old old → StandsAt r.to_come n.compared e New new
+    pub walk_ended : ((old new : List ℕ) → ReadsUpTo r.to_come n.compared e Old old → ReadsUpTo r.to_come n.compared e New new
         → remaining n.compared e old new ≡ [])
         → HasWalked {E = PairStop} r list options [] (λ counts. counts) m d u a b (Ok counts)
     walk_ended none =
-        let nothing : (old new : List ℕ) → StandsAt r.to_come m.compared d Old old → StandsAt r.to_come m.compared d New new
+        let nothing : (old new : List ℕ) → ReadsUpTo r.to_come m.compared d Old old → ReadsUpTo r.to_come m.compared d New new
         → remaining n.compared e old new ≡ [] =
-        λ old new s t. none old new (keeps.compared.stands Old old s) (keeps.compared.stands New new t) in
+        λ old new s t. none old new (reads_on keeps.compared Old old s) (reads_on keeps.compared New new t) in
         record {
           done = p.done;
           are = record {

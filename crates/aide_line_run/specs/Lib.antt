@@ -1,3 +1,4 @@
+pub mod BeforeFault
 pub mod Lines
 pub mod RunEnds
 pub mod LinesRun

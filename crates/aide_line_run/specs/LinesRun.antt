@@ -13,8 +13,9 @@ use Rattle.aide_merge.specs.Seen.{SinkSeen}
 use Rattle.aide_merge.specs.declared.outcome.Outcome.{Outcome}
 use Rattle.aide_text.specs.Failures.{CountsFlush, Rose}
 use Rattle.aide_line_run.specs.Lines.{AreAllLines}
-use Rattle.aide_line_run.specs.RunEnds.{CutsLines, EndsLines, IsFaultOfPair, LeavesPair}
-use Rattle.aide_line_run.specs.RunEnds.{RunsLines}
+use Rattle.aide_line_run.specs.BeforeFault.{AreBeforeFaults, FourTexts}
+use Rattle.aide_line_run.specs.RunEnds.{CutsFronts, CutsLines, EndsLines, IsFaultOfPair}
+use Rattle.aide_line_run.specs.RunEnds.{LeavesPair, RunsLines}
 use Rattle.aide_line_run.specs.Listed.{ListRead}
 use Rattle.aide_line_run.specs.PairSeen.{Gives, PairSeen, Told}
 use Rattle.aide_line_run.specs.Pairs.{CountsPairWrites, OfCompared, OfEach}
@@ -49,6 +50,10 @@ pub record IsLinesRun (limits : Limits) (list : ListRead) (p q : PairSeen)
       → Gives q trusted_old trusted_new
       → IfErr result (CutsLines limits list p.asked q.asked old new trusted_old trusted_new
       o.delivered s.delivered)
+  -- what has been written at a fault, by what of each text comes before its first fault
+  pub early : (texts fronts : FourTexts) → Gives p texts.old texts.new
+      → Gives q texts.trusted_old texts.trusted_new → AreBeforeFaults limits texts fronts
+      → IfErr result (CutsFronts limits list p.asked q.asked texts fronts o.delivered s.delivered)
   -- Before all four sides are open nothing is written.
   pub unopened : IfErr result (OfEach (KeepsUnopened o.delivered s.delivered)
       (KeepsUnopened o.delivered s.delivered))

@@ -1,16 +1,17 @@
 -- What a run with a trusted pair returns, and what it leaves.
 use Rattle.std.specs.Prelude.{◌≡◌, ◌≤◌, ◌*◌, ℕ, ◌⊎◌, Option, Some, None, Result, Ok, Err, List}
-use Rattle.std.specs.Prelude.{max, true}
+use Rattle.std.specs.Prelude.{◌++◌, max, true}
 use Rattle.std.specs.Io.KnownBytes.{Appends}
 use Rattle.aide_db.specs.Database.{IsSound}
 use Rattle.aide_db.specs.Longest.{longest_line}
-use Rattle.aide_db.specs.Map.{entries_of}
+use Rattle.aide_db.specs.Map.{database_of, entries_of}
 use Rattle.aide_db.specs.declared.fault.DbFault.{DbFault}
 use Rattle.aide_db.specs.declared.limits.Limits.{Limits}
 use Rattle.aide_db.specs.declared.side.Side.TheVariants.{Old, New}
 use Rattle.aide_entry.specs.Path.{path_cmp}
 use Rattle.aide_merge.specs.Asked.{Asked}
 use Rattle.aide_merge.specs.Bound.{three_lines}
+use Rattle.aide_merge.specs.Compare.{changes}
 use Rattle.aide_merge.specs.Said.{PathChange}
 use Rattle.aide_line_run.specs.Stops.{ComesOf}
 use Rattle.aide_merge.specs.RightAnswer.{IsOfReliable}
@@ -26,7 +27,9 @@ use Rattle.aide_merge.specs.declared.run_fault.RunFault.{RunFault}
 use Rattle.aide_merge.specs.declared.run_fault.RunFault.TheVariants.{Write}
 use Rattle.aide_text.specs.Failures.{Rose}
 use Rattle.aide_text.specs.Sent.{SendsPart}
-use Rattle.aide_line_run.specs.Lines.{BeginsLines, lines_of_texts}
+use Rattle.aide_line_run.specs.BeforeFault.{FourTexts}
+use Rattle.aide_line_run.specs.ChangeLines.{change_lines}
+use Rattle.aide_line_run.specs.Lines.{BeginsLines, by_texts, first_line, lines_of_texts}
 use Rattle.aide_line_run.specs.Listed.{ListRead, leaves_between}
 use Rattle.aide_line_run.specs.PairSeen.{Gives, PairSeen}
 use Rattle.aide_line_run.specs.declared.pair_fault.PairFault.{PairFault}
@@ -112,6 +115,24 @@ CutsLines limits list asked trusted old new trusted_old trusted_new before after
 CutsLines limits list asked trusted old new trusted_old trusted_new before after _ =
     BeginsLines (leaves_between list old new) asked trusted
     (changes_between old new) (changes_between trusted_old trusted_new) before after
+
+-- the first line, and a line for each added, removed or changed entry of four texts
+abbrev pub lines_before_last : ListRead → (asked trusted : Asked) → FourTexts → List ℕ
+lines_before_last list asked trusted texts = first_line asked trusted
+    ++ change_lines asked.options
+    (by_texts list texts.old texts.new texts.trusted_old texts.trusted_new)
+    (changes (database_of texts.old) (database_of texts.new))
+
+-- A beginning of the lines over what comes before the first fault of each text: no faulty line has a part in what has
+-- been written, and none after it.
+abbrev pub CutsFronts : Limits → ListRead → (asked trusted : Asked) → (texts fronts : FourTexts)
+    → (before after : Option (List ℕ)) → PairFault
+    → Type 0
+CutsFronts limits list asked trusted texts fronts before after (Compared (Write written)) =
+    (AreAllSound limits texts.old texts.new texts.trusted_old texts.trusted_new → ⊥)
+    → SendsPart (lines_before_last list asked trusted fronts) before after
+CutsFronts limits list asked trusted texts fronts before after _ =
+    SendsPart (lines_before_last list asked trusted fronts) before after
 
 -- ---- what a run leaves of each pair
 

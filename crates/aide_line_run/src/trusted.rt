@@ -2,7 +2,7 @@
 ghost use Rattle.std.specs.Prelude.{◌≡◌, ℕ, List, IfErr, OnOk};
 ghost use Rattle.aide_merge.specs.code.ChangeView.{change_of};
 ghost use Rattle.aide_merge.specs.code.MergeCalls.{IsMergeFault, KeepsMerge};
-ghost use Rattle.aide_merge.specs.code.Merging.{IsNotDue, IsReady, remaining};
+ghost use Rattle.aide_merge.specs.code.Merging.{IsNotDue, IsReady, IsWithinLimits, remaining};
 ghost use Rattle.aide_merge.specs.code.Settling.{IsStopped};
 ghost use Rattle.aide_agreement.specs.Account.{same_as};
 ghost use Rattle.aide_agreement.specs.Found.{found};
@@ -25,7 +25,8 @@ pub(crate) fn seek<R: Reel, A: Allocator + Copy>(
     desk: &mut Desk<A>,
     change: Change<'_>,
 ) -> Result<(), DbFault>
-    requires { IsReady merge.old desk.old }
+    requires ready { IsReady merge.old desk.old }
+    requires within { IsWithinLimits merge.old }
     ensures keeps { KeepsMerge R.Reel merge.old merge.new desk.old desk.new }
     ensures sought { OnOk result (IsSought R.Reel (change_of change.entry).0
         merge.old merge.new desk.old desk.new) }

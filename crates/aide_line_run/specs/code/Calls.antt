@@ -5,9 +5,10 @@ use Rattle.aide_db.specs.declared.reel.Reel.{Ghosts as Reels}
 use Rattle.aide_db.specs.declared.side.Side.TheVariants.{Old, New}
 use Rattle.aide_text.specs.declared.pen.Pen.{Pen}
 use Rattle.aide_merge.specs.code.MergeCalls.{IsMergeFault}
-use Rattle.aide_merge.specs.code.Merging.{IsNotDue, IsReady, StandsAt, remaining}
+use Rattle.aide_merge.specs.code.Merging.{IsNotDue, IsReady, IsWithinLimits, remaining}
 use Rattle.aide_merge.specs.declared.merge.Merge.{Merge}
 use Rattle.aide_line_run.specs.Sought.{seek}
+use Rattle.aide_line_run.specs.code.Over.{ReadsUpTo}
 use Rattle.aide_line_run.specs.declared.walk.Merges.{Merges}
 use Rattle.aide_line_run.specs.declared.walk.PairStop.{PairStop}
 use Rattle.aide_line_run.specs.declared.walk.PairStop.TheVariants.{Compared, Trusted, Write}
@@ -18,8 +19,9 @@ pub record IsSought {R : Type 0} (r : Reels R) (path : List ℕ) (m n : Merge R)
   -- the next path can be looked at
   pub ready : IsReady n e
   pub not_due : IsNotDue n
+  pub within : IsWithinLimits n
   -- the changes that are still to come are those from that path on
-  pub same : (old new : List ℕ) → StandsAt r.to_come m d Old old → StandsAt r.to_come m d New new
+  pub same : (old new : List ℕ) → ReadsUpTo r.to_come m d Old old → ReadsUpTo r.to_come m d New new
       → remaining n e old new ≡ seek path (remaining m d old new)
 
 -- Why a walk over both pairs stopped: a fault of either merge while every write succeeded, or a failed write.

@@ -9,13 +9,13 @@ use Rattle.aide_entry.specs.Path.{path_cmp}
 use Rattle.aide_line_text.specs.declared.counts.LineCounts.{LineCounts}
 use Rattle.aide_line_run.specs.code.LineTally.{sum_of_counts, tally}
 use Rattle.aide_merge.specs.code.MergeCalls.{KeepsMerge}
-use Rattle.aide_merge.specs.code.Merging.{IsEnded, IsReady, StandsAt, remaining, total_work}
+use Rattle.aide_merge.specs.code.Merging.{IsEnded, IsReady, IsWithinLimits, remaining, total_work}
 use Rattle.aide_text.specs.Sheet.{Sheet, Wrote}
 use Rattle.aide_text.specs.declared.pen.Pen.{Pen}
 use Rattle.aide_line_run.specs.Listed.{ListRead, leaves_between}
 use Rattle.aide_line_run.specs.Sought.{Accounted, accounted_lines, all_sought, changes_of}
 use Rattle.aide_line_run.specs.Sought.{sought_by}
-use Rattle.aide_line_run.specs.code.Over.{AreDone, OverMerges}
+use Rattle.aide_line_run.specs.code.Over.{AreDone, OverMerges, ReadsUpTo}
 use Rattle.aide_line_run.specs.code.Tallied.{tally_of}
 use Rattle.aide_line_run.specs.declared.walk.Merges.{Merges}
 
@@ -23,6 +23,8 @@ use Rattle.aide_line_run.specs.declared.walk.Merges.{Merges}
 pub record CanWalk {R : Type 0} (m : Merges R) (d u : DeskView) (pen : Pen) : Type 0 where
   pub ready : IsReady m.compared d
   pub trusted_ready : IsReady m.trusted u
+  pub within : IsWithinLimits m.compared
+  pub trusted_within : IsWithinLimits m.trusted
   pub short : total_work m.compared < 2 ^ 62
   pub writes_on : pen.failed ≡ false
 
@@ -52,13 +54,13 @@ pub record IsWalking {R : Type 0} (r : Reels R) (list : ListRead) (options : Opt
   pub wrote : Wrote (accounted_lines options done) a b
   pub counted : counts ≡ tally_of options done
   -- with what is still to come it is the whole
-  pub changes : (old new : List ℕ) → StandsAt r.to_come m.compared d Old old
-      → StandsAt r.to_come m.compared d New new
+  pub changes : (old new : List ℕ) → ReadsUpTo r.to_come m.compared d Old old
+      → ReadsUpTo r.to_come m.compared d New new
       → remaining m.compared d old new ≡ changes_of done ++ remaining n.compared e old new
   pub lines : (old new trusted_old trusted_new : List ℕ)
-      → StandsAt r.to_come m.compared d Old old → StandsAt r.to_come m.compared d New new
-      → StandsAt r.to_come m.trusted u Old trusted_old
-      → StandsAt r.to_come m.trusted u New trusted_new
+      → ReadsUpTo r.to_come m.compared d Old old → ReadsUpTo r.to_come m.compared d New new
+      → ReadsUpTo r.to_come m.trusted u Old trusted_old
+      → ReadsUpTo r.to_come m.trusted u New trusted_new
       → is_sorted path_cmp (remaining m.compared d old new) ≡ true
       → accounted_lines options
       (all_sought (leaves_between list old new) (remaining m.compared d old new)
@@ -67,17 +69,17 @@ pub record IsWalking {R : Type 0} (r : Reels R) (list : ListRead) (options : Opt
       (all_sought (leaves_between list old new) (remaining n.compared e old new)
       (remaining n.trusted v trusted_old trusted_new))
   pub tallies : (old new trusted_old trusted_new : List ℕ)
-      → StandsAt r.to_come m.compared d Old old → StandsAt r.to_come m.compared d New new
-      → StandsAt r.to_come m.trusted u Old trusted_old
-      → StandsAt r.to_come m.trusted u New trusted_new
+      → ReadsUpTo r.to_come m.compared d Old old → ReadsUpTo r.to_come m.compared d New new
+      → ReadsUpTo r.to_come m.trusted u Old trusted_old
+      → ReadsUpTo r.to_come m.trusted u New trusted_new
       → is_sorted path_cmp (remaining m.compared d old new) ≡ true
       → sum_of_counts counts (tally_of options
       (all_sought (leaves_between list old new) (remaining n.compared e old new)
       (remaining n.trusted v trusted_old trusted_new)))
       ≡ tally_of options (all_sought (leaves_between list old new) (remaining m.compared d old new)
       (remaining m.trusted u trusted_old trusted_new))
-  pub sorted : (old new : List ℕ) → StandsAt r.to_come m.compared d Old old
-      → StandsAt r.to_come m.compared d New new
+  pub sorted : (old new : List ℕ) → ReadsUpTo r.to_come m.compared d Old old
+      → ReadsUpTo r.to_come m.compared d New new
       → is_sorted path_cmp (remaining m.compared d old new) ≡ true
       → is_sorted path_cmp (remaining n.compared e old new) ≡ true
 

@@ -11,6 +11,8 @@ pub write_lines-written-requires : goal.write_lines-written-requires
 write_lines-written-requires g c = record {
   ready = c.in-Ok.ensures.opened.opened.ready;
   trusted_ready = c.in-Ok.ensures.trusted_opened.opened.ready;
+  within = c.in-Ok.ensures.opened.opened.within;
+  trusted_within = c.in-Ok.ensures.trusted_opened.opened.within;
   short = c.in-Ok.ensures.opened.opened.short;
   writes_on = refl;
 }

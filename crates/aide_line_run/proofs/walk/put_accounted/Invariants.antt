@@ -1,7 +1,7 @@
 -- What was written and counted, and what is still to come, is the whole.
 use Rattle.std.proofs.Common.{◌≡◌, ◌-◌, ◌^◌, false}
 use Rattle.aide_line_run.specs.code.LineTally.{AreLinesBelow}
-use Rattle.aide_merge.specs.code.Merging.{IsReady, total_work}
+use Rattle.aide_merge.specs.code.Merging.{IsReady, IsWithinLimits, total_work}
 use Rattle.aide_text.specs.PenSheet.{on_sheet}
 use Rattle.aide_line_run.specs.ListView.{list_read}
 use Rattle.aide_line_run.specs.code.Walked.{IsWalking, KeepsMerges}
@@ -11,6 +11,8 @@ abbrev pub invariant-pass : goal.invariant-pass
 invariant-pass g l = record {
   ready : IsReady l.merges.compared l.desk;
   trusted_ready : IsReady l.merges.trusted l.trusted_desk;
+  within : IsWithinLimits l.merges.compared;
+  trusted_within : IsWithinLimits l.merges.trusted;
   small : AreLinesBelow l.counts (2 ^ 62 - total_work l.merges.compared);
   writes_on : l.pen.failed ≡ false;
   keeps : KeepsMerges g.R.Reel l.fn.merges l.merges l.fn.desk l.desk l.fn.trusted_desk l.trusted_desk;
