@@ -1,7 +1,7 @@
 use Rattle.std.proofs.Common.{arith}
 use Rattle.std.specs.Prelude.{Some}
 use Rattle.aide_session.specs.Answer.{asked_by, limits}
-use Rattle.aide_session.specs.LineAnswer.{line_answer, lines_at_fault, trusted_of}
+use Rattle.aide_session.specs.LineAnswer.{trusted_of}
 use Rattle.aide_session.specs.Trusted.{trusted_at}
 use Rattle.aide_session.proofs.LineExistence.{RunsLines-exists}
 use Rattle.aide_session.proofs.LineLaws.{line_answer_by_what_is_asked}
@@ -10,9 +10,7 @@ use Rattle.aide_headline.proofs.lines_program.run_lines_program.Goals as goal
 
 pub returns-clause-answer : goal.returns-clause-answer
 returns-clause-answer g c job list named settings old new trusted_old trusted_new asks site trusted out right is =
-    (c.lines_session_on.ensures.session.compares job asks.job_is).exact named
-    (line_answer (lines_at_fault list (asked_by settings.options named) (asked_by settings.options (trusted_of job)) (Some old) (Some new)
-    (Some trusted_old) (Some trusted_new)) named (trusted_of job) right)
+    (c.lines_session_on.ensures.session.compares job asks.job_is).exact named _
     (line_answer_by_what_is_asked (g.S.Sources.file_at c.args.compared.now.site) (trusted_at (g.S.Sources.file_at c.args.trusted.now.site))
     c.args.words.now job list named settings old new trusted_old trusted_new right asks
     (right_is_the_answer limits list (asked_by settings.options named) (asked_by settings.options (trusted_of job)) old new trusted_old
@@ -23,9 +21,7 @@ pub returns-clause-bound : goal.returns-clause-bound
 returns-clause-bound g c job list named settings old new trusted_old trusted_new asks =
     let right = RunsLines-exists limits list (asked_by settings.options named) (asked_by settings.options (trusted_of job)) (Some old)
     (Some new) (Some trusted_old) (Some trusted_new) (omega arith) in
-    (c.lines_session_on.ensures.session.compares job asks.job_is).bound named
-    (line_answer (lines_at_fault list (asked_by settings.options named) (asked_by settings.options (trusted_of job)) (Some old) (Some new)
-    (Some trusted_old) (Some trusted_new)) named (trusted_of job) right.0)
+    (c.lines_session_on.ensures.session.compares job asks.job_is).bound named _
     (line_answer_by_what_is_asked (g.S.Sources.file_at c.args.compared.now.site) (trusted_at (g.S.Sources.file_at c.args.trusted.now.site))
     c.args.words.now job list named settings old new trusted_old trusted_new right.0 asks right.1)
     old new asks.old_there asks.new_there
@@ -34,9 +30,7 @@ pub returns-clause-trusted_bound : goal.returns-clause-trusted_bound
 returns-clause-trusted_bound g c job list named settings old new trusted_old trusted_new asks =
     let right = RunsLines-exists limits list (asked_by settings.options named) (asked_by settings.options (trusted_of job)) (Some old)
     (Some new) (Some trusted_old) (Some trusted_new) (omega arith) in
-    (c.lines_session_on.ensures.session.compares job asks.job_is).trusted_bound named
-    (line_answer (lines_at_fault list (asked_by settings.options named) (asked_by settings.options (trusted_of job)) (Some old) (Some new)
-    (Some trusted_old) (Some trusted_new)) named (trusted_of job) right.0)
+    (c.lines_session_on.ensures.session.compares job asks.job_is).trusted_bound named _
     (line_answer_by_what_is_asked (g.S.Sources.file_at c.args.compared.now.site) (trusted_at (g.S.Sources.file_at c.args.trusted.now.site))
     c.args.words.now job list named settings old new trusted_old trusted_new right.0 asks right.1)
     trusted_old trusted_new asks.trusted_old_there asks.trusted_new_there
