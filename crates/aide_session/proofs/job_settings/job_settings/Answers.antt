@@ -9,5 +9,5 @@ returns-in-Ok-clause-ok g c =
 
 pub returns-in-Ok-clause-err : goal.returns-in-Ok-clause-err
 returns-in-Ok-clause-err g c =
-    has_fault (g.S.Sources.file_at c.args.site.now) (job_text_of c.args.job.now) _ _ c.as_slice.ensures.value c.in-Ok.ensures.ok c.in-Ok.ensures.small _ _ _
-    c.read_settings.ensures.err
+    has_fault (g.S.Sources.file_at c.args.site.now) (job_text_of c.args.job.now) _ _ c.as_slice.ensures.value c.in-Ok.ensures.ok
+    c.in-Ok.ensures.small _ _ _ c.read_settings.ensures.err
