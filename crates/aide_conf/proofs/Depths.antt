@@ -33,9 +33,7 @@ module _ (here outer : List Seen) (o : Seen) (between : List Seen) (inner : IsIn
     where
       at_innermost : (more : List Seen) → h.0 ≡ outer ++ more → o ∷ between ≡ more ++ h.1 ∷ h.2 → i ≡ length outer
       at_innermost [] e q = sym h.4 ∙ ap length (e ∙ append-nil outer)
-      at_innermost (x ∷ more) e q =
-          let tail : between ≡ more ++ h.1 ∷ h.2 = cc in
-          absurd (h.6 (inner.last more h.1 h.2 tail h.5))
+      at_innermost (x ∷ more) e q = search rules
 
   encloses_itself : Encloses here (length outer)
   encloses_itself = (outer, o, between, inner.cut, refl, inner.opening, inner.unclosed)
