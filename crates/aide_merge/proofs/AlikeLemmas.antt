@@ -1,7 +1,6 @@
 -- Entries that a desk holds alike: they are the same, so their paths tie and nothing differs.
-use Rattle.std.proofs.Common.{rules}
 use Rattle.std.specs.Prelude.{◌≡◌, ℕ, List, Option, Some, None, [], ◌∷◌}
-use Rattle.std.proofs.Common.{sym, ap, ◌∙◌}
+use Rattle.std.proofs.Common.{sym, ap, ◌∙◌, rules}
 use Rattle.aide_db.specs.Alike.{HoldsAlike}
 use Rattle.aide_entry.specs.Attributes.{Attributes, Entry}
 use Rattle.aide_entry.specs.View.{entry_at}

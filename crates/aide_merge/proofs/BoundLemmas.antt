@@ -1,7 +1,6 @@
 -- What is held stays within its bound.
-use Rattle.std.proofs.Common.{rules}
 use Rattle.std.specs.Prelude.{◌≡◌, ◌≤◌, ◌*◌, ℕ, max, Option, Some, Result, Ok, List, [], length}
-use Rattle.std.proofs.Common.{refl, ap, sym, subst, arith, inl, inr}
+use Rattle.std.proofs.Common.{refl, ap, sym, subst, arith, inl, inr, rules}
 use Rattle.aide_db.specs.CursorView.{CursorView}
 use Rattle.aide_db.specs.Desk.{list_of}
 use Rattle.aide_db.specs.DeskView.{DeskView}
@@ -29,8 +28,8 @@ fits_taken : (side : Side) (d e : DeskView) (longest old_line new_line before : 
     → length (list_of side e) ≤ max (length (list_of side d)) longest
     → d.peak ≤ e.peak → e.peak ≤ peak_limit side d longest → Fits old_line new_line before d
     → Fits old_line new_line before e
-fits_taken Old d e longest old_line new_line before short other own rises limit fits = search (rules)
-fits_taken New d e longest old_line new_line before short other own rises limit fits = search (rules)
+fits_taken Old d e longest old_line new_line before short other own rises limit fits = search rules
+fits_taken New d e longest old_line new_line before short other own rises limit fits = search rules
 
 -- a side's list is the one before, or has a line within the limit
 own_length : (side : Side) (d e : DeskView) (columns : List Column) (limit : ℕ) (answer : Result Step DbFault)
@@ -56,7 +55,7 @@ pub within_after : {R : Type 0} (to_come : R → Option (List ℕ)) (c after : C
     → after.limits ≡ c.limits
     → ((text : List ℕ) → Stands to_come c d text → Stands to_come after e text)
     → TakesWithin to_come c d longest → TakesWithin to_come after e longest
-within_after to_come c after d e longest same keeps within = search (rules)
+within_after to_come c after d e longest same keeps within = search rules
 
 -- nor does a cursor whose side is as before
 pub within_across : {R : Type 0} (to_come : R → Option (List ℕ)) (c : CursorView R) (side : Side) (d e : DeskView) (longest : ℕ)
@@ -117,13 +116,13 @@ fits_further to_come m further d middle e same keeps first second old_line new_l
 pub fits_opened : (side : Side) (d e : DeskView) → list_of side e ≡ []
     → list_of (other_side side) e ≡ list_of (other_side side) d → e.peak ≡ d.peak
     → (old_line new_line before : ℕ) → Fits old_line new_line before d → Fits old_line new_line before e
-fits_opened Old d e emptied other same old_line new_line before fits = search (rules)
-fits_opened New d e emptied other same old_line new_line before fits = search (rules)
+fits_opened Old d e emptied other same old_line new_line before fits = search rules
+fits_opened New d e emptied other same old_line new_line before fits = search rules
 
 -- a desk whose lists are empty fits any bounds
 pub fits_cleared : (d e : DeskView) → list_of Old e ≡ [] → list_of New e ≡ [] → e.peak ≡ d.peak
     → (old_line new_line : ℕ) → Fits old_line new_line d.peak e
-fits_cleared d e no_old no_new same old_line new_line = search (rules)
+fits_cleared d e no_old no_new same old_line new_line = search rules
 
 -- of any sources no line is longer than the limit
 pub fits_limit : (bytes_of : Side → Option (List ℕ)) (limits : Limits) (d e : DeskView)

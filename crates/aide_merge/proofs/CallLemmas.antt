@@ -1,7 +1,6 @@
 -- What calls of a cursor and of a merge keep, one after the other.
-use Rattle.std.proofs.Common.{rules}
 use Rattle.std.specs.Prelude.{ℕ, ◌≡◌, List, Result}
-use Rattle.std.proofs.Common.{refl, sym, subst, arith, ◌∙◌}
+use Rattle.std.proofs.Common.{refl, sym, subst, arith, ◌∙◌, rules}
 use Rattle.aide_db.specs.Answer.{Stands}
 use Rattle.aide_db.specs.CursorView.{CursorView}
 use Rattle.aide_db.specs.DeskView.{DeskView}
@@ -27,7 +26,7 @@ use Rattle.aide_merge.proofs.StandingLemmas.{stands_across, stands_at}
 
 -- no call
 pub cursor_none : {R : Type 0} (r : Reels R) (c : CursorView R) (d : DeskView) → KeepsCursor r c c d d
-cursor_none r c d = search (rules)
+cursor_none r c d = search rules
 
 -- the next entry, the end or a fault
 pub cursor_next : {R : Type 0} {r : Reels R} {c n : CursorView R} {d e : DeskView} {result : Result Step DbFault}
@@ -51,7 +50,7 @@ advanced_at {r = r} {c = c} {n = n} {d = d} {e = e} {before = before} {after = a
 
 -- no call
 pub merge_none : {R : Type 0} (r : Reels R) (m : Merge R) (d : DeskView) → KeepsMerge r m m d d
-merge_none r m d = search (rules)
+merge_none r m d = search rules
 
 -- one call more
 pub merge_then : {R : Type 0} {r : Reels R} {m n k : Merge R} {d e f : DeskView} → KeepsMerge r m n d e

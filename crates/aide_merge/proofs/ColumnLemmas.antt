@@ -1,7 +1,6 @@
 -- The columns of a merge's cursors, once their first entries have been read.
-use Rattle.std.proofs.Common.{rules}
 use Rattle.std.specs.Prelude.{◌≡◌, ◌≢◌, ◌⊎◌, ℕ, List, [], ◌∷◌, take, Option, IsSome}
-use Rattle.std.proofs.Common.{inl, inr, refl, subst, sym}
+use Rattle.std.proofs.Common.{inl, inr, refl, subst, sym, rules}
 use Rattle.aide_db.specs.Answer.{Stands, StandsAtStage, StandsIn}
 use Rattle.aide_db.specs.CursorView.{CursorView, to_use}
 use Rattle.aide_db.specs.Desk.{columns_of_side, desk_entry, list_of}

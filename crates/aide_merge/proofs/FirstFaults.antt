@@ -1,7 +1,6 @@
 -- A text has one first fault, and a run one right answer.
-use Rattle.std.proofs.Common.{rules}
 use Rattle.std.specs.Prelude.{◌≡◌, ℕ, ◌+◌, ◌⊎◌, true, Some, Result, Ok, Err, List, [], ◌∷◌, ◌++◌, length, nat_le}
-use Rattle.std.proofs.Common.{refl, sym, ap, subst, ◌∙◌, inl, inr, append_assoc}
+use Rattle.std.proofs.Common.{refl, sym, ap, subst, ◌∙◌, inl, inr, append_assoc, rules}
 use Rattle.aide_db.specs.Database.{IsFront, IsAtLine, IsFirstFault, fault_of, whole_lines}
 use Rattle.aide_entry.specs.Text.{lines}
 use Rattle.aide_db.specs.declared.fault.DbFault.{DbFault}
@@ -33,7 +32,7 @@ tail_of x z xs zs e = cc
 
 cut_later : {X : Type 0} (y : X) (xs : List X) (x : X) (zs : List X) (z : X) → Cuts xs x zs z
     → Cuts (y ∷ xs) x (y ∷ zs) z
-cut_later y xs x zs z c = search (rules)
+cut_later y xs x zs z c = search rules
 
 cuts : {X : Type 0} (xs : List X) (x : X) (ys : List X) (zs : List X) (z : X) (ws : List X)
     → xs ++ x ∷ ys ≡ zs ++ z ∷ ws → Cuts xs x zs z

@@ -1,7 +1,6 @@
 -- What is left of the sources and of the desk, one call after the other.
-use Rattle.std.proofs.Common.{rules}
 use Rattle.std.specs.Prelude.{ℕ, ◌≡◌, Option, List, []}
-use Rattle.std.proofs.Common.{refl, sym, subst, ◌∙◌}
+use Rattle.std.proofs.Common.{refl, sym, subst, ◌∙◌, rules}
 use Rattle.aide_db.specs.DeskView.{DeskView}
 use Rattle.aide_db.specs.declared.limits.Limits.{Limits}
 use Rattle.aide_db.specs.declared.side.Side.{Side}
@@ -13,17 +12,17 @@ use Rattle.aide_db.specs.Desk.{list_of}
 use Rattle.aide_merge.proofs.BoundLemmas.{fits_cleared}
 
 pub sources_none : (a : Seen) → KeepsSources a a
-sources_none a = search (rules)
+sources_none a = search rules
 
 pub sources_then : {a b c : Seen} → KeepsSources a b → KeepsSources b c → KeepsSources a c
-sources_then p q = search (rules)
+sources_then p q = search rules
 
 pub desk_none : (limits : Limits) (bytes_of : Side → Option (List ℕ)) (d : DeskView) → KeepsDesk limits bytes_of d d
 desk_none limits bytes_of d = record { room = refl; fits = λ old_line new_line before within_old within_new fits. fits }
 
 pub desk_then : {limits : Limits} {bytes_of after : Side → Option (List ℕ)} {d e f : DeskView} → after ≡ bytes_of
     → KeepsDesk limits bytes_of d e → KeepsDesk limits after e f → KeepsDesk limits bytes_of d f
-desk_then {limits} same p q = search (rules)
+desk_then {limits} same p q = search rules
 
 -- a desk whose lists are empty
 pub clears : (limits : Limits) (bytes_of : Side → Option (List ℕ)) (d e : DeskView) → list_of Old e ≡ [] → list_of New e ≡ []

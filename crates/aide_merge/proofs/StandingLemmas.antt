@@ -1,7 +1,6 @@
 -- From the lines that a cursor answers to the entries of a database.
-use Rattle.std.proofs.Common.{rules}
 use Rattle.std.specs.Prelude.{IsSome, [], ◌∷◌, ◌++◌, map, true}
-use Rattle.std.proofs.Common.{refl, sym, ap, subst, ◌∙◌, ◌≡◌, ℕ, List, Option}
+use Rattle.std.proofs.Common.{refl, sym, ap, subst, ◌∙◌, ◌≡◌, ℕ, List, Option, rules}
 use Rattle.aide_db.specs.Answer.{StandsFor, Stands, StandsAtStage, StandsIn}
 use Rattle.aide_db.specs.CursorView.{CursorView}
 use Rattle.aide_entry.specs.View.{entry_at}
@@ -40,7 +39,7 @@ kept_entry side d e kept = (λ i. entry_at (kept.1 i) (kept.0 i))
 -- the state of a cursor whose side is as before
 pub stands_across : {R : Type 0} (to_come : R → Option (List ℕ)) (c : CursorView R) (side : Side) (d e : DeskView) (text : List ℕ)
     → c.side ≡ side → IsKept side d e → Stands to_come c d text → Stands to_come c e text
-stands_across to_come c side d e text is kept stands = search (rules)
+stands_across to_come c side d e text is kept stands = search rules
 
 pub stands_at : {R : Type 0} (to_come : R → Option (List ℕ)) (c : CursorView R) (side : Side) (d : DeskView) (text : List ℕ)
     → c.side ≡ side → StandsFor to_come c (list_of side d) (columns_of_side side d) text → Stands to_come c d text

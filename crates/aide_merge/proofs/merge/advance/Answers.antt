@@ -17,7 +17,7 @@ returns-in-Ok-End-clause-keeps g c =
     let next = c.in-Ok-End.ensures in cursor_next next.text next.outcome next.cursor next.desk
 
 pub returns-in-Ok-End-clause-advanced : goal.returns-in-Ok-End-clause-advanced
-returns-in-Ok-End-clause-advanced g c = search (rules)
+returns-in-Ok-End-clause-advanced g c = search rules
 
 pub returns-in-Err-clause-keeps : goal.returns-in-Err-clause-keeps
 returns-in-Err-clause-keeps g c =

@@ -1,5 +1,4 @@
-use Rattle.std.proofs.Common.{rules}
-use Rattle.std.proofs.Common.{refl}
+use Rattle.std.proofs.Common.{refl, rules}
 use Rattle.aide_merge.proofs.CallLemmas.{passed_on, still_within}
 use Rattle.aide_merge.proofs.Steps.{some_change, no_change}
 use Rattle.aide_merge.proofs.UpcomingLemmas.{next_ended, next_falls, next_gives, still_ready, upcoming_none}
