@@ -1,5 +1,5 @@
 -- Counts, one change after another.
-use Rattle.std.proofs.Common.{◌≡◌, ℕ, ◌+◌, ◌-◌, ◌<◌, ◌≤◌, Bool, false, refl, List, [], ◌∷◌, ◌++◌, ap, ◌∙◌, arith}
+use Rattle.std.proofs.Common.{◌≡◌, ℕ, ◌+◌, ◌-◌, ◌<◌, ◌≤◌, Bool, false, refl, List, [], ◌∷◌, ◌++◌, ap, ◌∙◌, arith, rules}
 use Rattle.std.specs.Prelude.{count_by, cond}
 use Rattle.std.proofs.lemmas.List.Sums.{count_by-le-length, sum_by-append}
 use Rattle.aide_conf.specs.declared.options.Options.{Options}
@@ -55,13 +55,7 @@ pub small_more : (options : Options) (a b : Counts) (change : Change) (top m n :
     → b.total ≡ a.total + count_by is_of_new (change ∷ [])
     → b.shown ≡ a.shown + count_by (is_shown_entry options) (change ∷ [])
     → AreBelow a (top - m) → AreBelow b (top - n)
-small_more options a b change top m n less e f g h s small = record {
-  added = small_one is_added change a.added b.added top m n less e small.added;
-  removed = small_one is_removed change a.removed b.removed top m n less f small.removed;
-  changed = small_one (is_changed (differ_by options.ignore)) change a.changed b.changed top m n less g small.changed;
-  total = small_one is_of_new change a.total b.total top m n less h small.total;
-  shown = small_one (is_shown_entry options) change a.shown b.shown top m n less s small.shown;
-}
+small_more options a b change top m n less e f g h s small = search (rules, small_one)
 
 -- ---- an entry that both sides have alike is counted only in the total
 
@@ -81,10 +75,4 @@ counts_alike options a b entry rest changes more all is one counted so_far =
 
 pub small_alike : (a b : Counts) (top m n : ℕ) → n < m → b ≡ record a { total = a.total + 1 }
     → AreBelow a (top - m) → AreBelow b (top - n)
-small_alike a b top m n less counted small = rw counted (record {
-  added = omega (arith, small.added);
-  removed = omega (arith, small.removed);
-  changed = omega (arith, small.changed);
-  total = omega (arith, small.total);
-  shown = omega (arith, small.shown);
-})
+small_alike a b top m n less counted small = search rules

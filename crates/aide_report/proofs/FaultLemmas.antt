@@ -1,5 +1,5 @@
 -- The faults of a run, by cases.
-use Rattle.std.specs.Prelude.{◌≡◌, ℕ, Option, Some, Result, Err, List, true, false}
+use Rattle.std.specs.Prelude.{◌≡◌, ℕ, Option, Some, Result, Err, List, false}
 use Rattle.std.proofs.Common.{refl, sym, subst, ap, inl, inr, ◌∙◌}
 use Rattle.aide_merge.specs.Asked.{Asked}
 use Rattle.aide_db.specs.Database.{IsSound}

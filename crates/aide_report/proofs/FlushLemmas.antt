@@ -1,9 +1,9 @@
 -- What the flush at the end makes of what was written before it.
-use Rattle.std.proofs.Common.{◌≡◌, ◌∙◌, ◌≤◌, ℕ, List, Bool, true, false, ap, le_refl, refl, subst, sym}
+use Rattle.std.proofs.Common.{◌≡◌, ℕ, List, Bool, true, false, ap, le_refl, refl, subst, sym, rules}
 use Rattle.std.specs.Prelude.{Result, Ok, Err, OnOk}
 use Rattle.aide_db.specs.DeskView.{DeskView}
 use Rattle.aide_db.specs.declared.limits.Limits.{Limits}
-use Rattle.aide_text.specs.Failures.{Rose, one_more}
+use Rattle.aide_text.specs.Failures.{Rose}
 use Rattle.aide_text.specs.PenSheet.{on_sheet}
 use Rattle.aide_text.specs.Sent.{Sends}
 use Rattle.aide_text.specs.Sheet.{WritesFirst}
@@ -44,10 +44,7 @@ module _ {W : Type 0} (s : Sinks W) (start a b : W) (first pen : Pen) (is_new : 
   flushed_passes {T} {limits} {n} {x} {y} {d} {e} (Ok answer) (Err fault) ends kept passes =
       subst (λ broken. Passes {T = T} limits n x y d e (Rose (s.failures start) (s.failures b)) (Err broken)) (sym ends.breaks)
       (passes_broken _ _ pen.sent (le_refl _) passes (rose_by_one _ _ _ (never_falls fresh kept.some) ends.fails))
-  flushed_passes {T} {limits} {n} {x} {y} {d} {e} (Err fault) result ends kept passes =
-      subst (λ sink. Passes limits n x y d e (Rose (s.failures start) (s.failures sink)) result) (sym ends.1)
-      (subst (Passes {T = T} limits n x y d e (Rose (s.failures start) (s.failures a))) (sym ends.0)
-      (passes_err (rose_of_pen fresh kept.some) passes))
+  flushed_passes {T} {limits} {n} {x} {y} {d} {e} (Err fault) result ends kept passes = search (rules, passes_err, rose_of_pen, fresh)
 
   pub flushed_sends : {T : Type 0} (text : List ℕ) (written result : Result T RunFault)
       → EndsFlushed s a b pen.sent written result → KeepsPen (on_sheet s start first) (on_sheet s a pen) pen written
@@ -62,33 +59,9 @@ module _ {W : Type 0} (s : Sinks W) (start a b : W) (first pen : Pen) (is_new : 
   pub flushed_once : {T : Type 0} (written result : Result T RunFault)
       → EndsFlushed s a b pen.sent written result → KeepsPen (on_sheet s start first) (on_sheet s a pen) pen written
       → FlushesOnce s start b result
-  flushed_once (Ok answer) (Ok done) ends kept =
-      let rises = never_falls fresh kept.some in
-      record {
-        flushed = ends.flushed;
-        flushes = ends.flushes ∙ ap one_more (unflushed kept.some);
-        written = tt;
-        never_falls = subst (λ n. s.failures start ≤ n) (sym ends.fails) rises;
-        fails = ends.fails ∙ unfailed fresh kept.writes_on kept.some;
-      }
-  flushed_once {T} (Ok answer) (Err fault) ends kept =
-      let rises = never_falls fresh kept.some in
-      subst (λ broken. FlushesOnce {T = T} s start b (Err broken)) (sym ends.breaks) (record {
-        flushed = tt;
-        flushes = ends.flushes ∙ unflushed kept.some;
-        written = flushed_count (s.delivered b) fresh (ap (λ (pen : Pen). pen.sent) is_new) kept.some ends.bytes;
-        never_falls = rises_by_one _ _ _ rises ends.fails;
-        fails = ends.fails ∙ ap one_more (unfailed fresh kept.writes_on kept.some);
-      })
-  flushed_once {T} (Err fault) result ends kept =
-      subst (λ sink. FlushesOnce s start sink result) (sym ends.1) (subst (FlushesOnce {T = T} s start a) (sym ends.0) (record {
-        flushed = tt;
-        flushes = unflushed kept.some;
-        written = written_of_pen pen (s.delivered start) (s.delivered a) fault
-            (count_of_pen fresh (ap (λ (pen : Pen). pen.sent) is_new) kept.some) kept.written;
-        never_falls = never_falls fresh kept.some;
-        fails = counts_of_pen pen fault refl fresh kept.some kept.written;
-      }))
+  flushed_once (Ok answer) (Ok done) ends kept = search (rules, never_falls, fresh, unflushed, unfailed)
+  flushed_once {T} (Ok answer) (Err fault) ends kept = search (rules, never_falls, fresh, unflushed, flushed_count, rises_by_one, unfailed)
+  flushed_once {T} (Err fault) result ends kept = search (rules, unflushed, written_of_pen, count_of_pen, fresh, never_falls, counts_of_pen)
 
   pub flushed_begins : {T : Type 0} (text : List ℕ) (more : Bool) (written result : Result T RunFault)
       → EndsFlushed s a b pen.sent written result → KeepsPen (on_sheet s start first) (on_sheet s a pen) pen written

@@ -1,6 +1,6 @@
 -- What the openings of a side gave: none, those of a pass, and those of further calls.
 use Rattle.std.specs.Prelude.{◌≡◌, ◌≤◌, ◌<◌, ℕ, List, Option}
-use Rattle.std.proofs.Common.{◌∙◌, ap, arith, inl, inr, subst, sym}
+use Rattle.std.proofs.Common.{◌∙◌, ap, arith, inl, inr, subst, sym, rules}
 use Rattle.std.proofs.lemmas.Bool.Decides.{leb_tells}
 use Rattle.sha2.specs.Sha256.{sha256}
 use Rattle.aide_db.specs.Answer.{StandsFor}
@@ -46,10 +46,7 @@ once before after number opens since until = omega (arith, opens, since, until)
 -- both sides were opened once
 pub gave_once : {bytes_at : Side → ℕ → Option (List ℕ)} {a b : Side → ℕ} {digests : Digests} → OpensExactly a b 1
     → AreDigests (next_given bytes_at a) digests → GaveDigests bytes_at a b digests
-gave_once {bytes_at} {a} {b} opens are = record {
-  each = λ side number text is. are side text
-      (ap (bytes_at side) (once (a side) (b side) number (opens_on opens side) is.since is.until) ∙ is.gives);
-}
+gave_once {bytes_at} {a} {b} opens are = search (rules, once, opens_on)
 
 -- a merge of both has come to its end, and has the same digests
 pub gave_merged : {R : Type 0} {r : Reels R} {limits : Limits} {bytes_at : Side → ℕ → Option (List ℕ)} {a b c : Side → ℕ}

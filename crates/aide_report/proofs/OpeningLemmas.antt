@@ -1,5 +1,5 @@
 -- Which side is refused, by how often each was opened; and that nothing has gone out before the counting has ended.
-use Rattle.std.proofs.Common.{◌≡◌, ◌<◌, ◌≤◌, ◌-◌, ◌^◌, ℕ, ◌+◌, Bool, List, [], Option, arith}
+use Rattle.std.proofs.Common.{◌≡◌, ◌<◌, ◌≤◌, ◌-◌, ◌^◌, ℕ, ◌+◌, List, [], Option, arith}
 use Rattle.std.specs.Io.KnownBytes.{Appends}
 use Rattle.aide_db.specs.Count.{one_more, sum_of}
 use Rattle.aide_db.specs.declared.side.Side.{Side}
@@ -7,7 +7,7 @@ use Rattle.aide_db.specs.declared.side.Side.TheVariants.{Old, New}
 use Rattle.aide_merge.specs.Openings.{OpensExactly, WasOpened, ComesOpened, IsRefusedIn, IsRefusedThere}
 use Rattle.aide_merge.specs.RunFaults.{HasSentNothing}
 use Rattle.aide_merge.specs.declared.run_fault.RunFault.{RunFault}
-use Rattle.aide_merge.specs.declared.run_fault.RunFault.TheVariants.{Open, Database, Changed, Write}
+use Rattle.aide_merge.specs.declared.run_fault.RunFault.TheVariants.{Open, Write}
 use Rattle.aide_text.proofs.Sending.{Appends-nothing}
 
 refused_in : (side : Side) (before middle after : Side → ℕ) (n : ℕ) → OpensExactly before middle n

@@ -1,6 +1,6 @@
 -- What passes keep: none, one after others, one that stops early, and a merge between its opening and its closing.
 use Rattle.std.specs.Prelude.{ℕ, ◌≡◌, ◌<◌, ◌≤◌, ◌+◌, ◌++◌, true, false, Option, List, Result, Ok, Err}
-use Rattle.std.proofs.Common.{refl, sym, subst, arith, ◌∙◌}
+use Rattle.std.proofs.Common.{refl, sym, subst, arith, ◌∙◌, rules}
 use Rattle.aide_db.specs.Answer.{StandsFor}
 use Rattle.aide_db.specs.Desk.{columns_of_side, list_of}
 use Rattle.aide_db.specs.DeskView.{DeskView}
@@ -27,13 +27,13 @@ use Rattle.aide_report.specs.code.PassFaults.{IsStopOf, Writes, pass_fault_of}
 use Rattle.aide_merge.specs.code.Desks.{KeepsDesk}
 use Rattle.aide_report.specs.code.Passes.{KeepsPen, IsPassFault, Passes}
 use Rattle.aide_merge.specs.Seen.{Seen, KeepsSources}
-use Rattle.aide_merge.specs.RunFaults.{HasPenWritten, IsCaused, IsLater}
+use Rattle.aide_merge.specs.RunFaults.{HasPenWritten, IsCaused}
 use Rattle.aide_merge.specs.Standing.{IsFaultOf}
 use Rattle.aide_report.specs.declared.change_writer.PassFault.{PassFault}
 use Rattle.aide_report.specs.declared.change_writer.PassFault.TheVariants as passes
 use Rattle.aide_merge.specs.declared.merge.Merge.{Merge}
 use Rattle.aide_merge.specs.declared.run_fault.RunFault.{RunFault}
-use Rattle.aide_merge.specs.declared.run_fault.RunFault.TheVariants.{Open, Database, Changed, Write}
+use Rattle.aide_merge.specs.declared.run_fault.RunFault.TheVariants.{Changed, Write}
 use Rattle.aide_report.proofs.FaultLemmas.{later_fault, later_is, rose_later}
 use Rattle.aide_merge.proofs.FaultLemmas.{none_failed, rose_since}
 use Rattle.aide_report.proofs.OpeningLemmas.{comes_later, comes_opened, refused_later}
@@ -48,75 +48,37 @@ use Rattle.aide_merge.proofs.KeepLemmas.{desk_none, desk_then, sources_none, sou
 pub fault_then : {limits : Limits} {a b c : Seen} {room room_now : ℕ} {sink : Type 0} {fault : RunFault} (n : ℕ)
     → KeepsSources a b → OpensExactly a.openings b.openings n → room_now ≡ room
     → IsPassFault limits b c room_now sink fault → IsPassFault limits a c room sink fault
-fault_then {limits} {a} {b} {c} {room} {room_now} {sink} {fault} n keeps opens kept is = record {
-  begun = comes_later (a.openings Old) (b.openings Old) (c.openings Old) n fault opens.of_old is.begun;
-  refused = refused_later a.openings b.openings c.openings n fault opens is.refused;
-  not_given = is.not_given;
-  later = subst (λ bytes. IsLater limits bytes fault) keeps.same is.later;
-  caused = rose_later (Rose b.failures c.failures) (Rose a.failures c.failures) sink fault
-      (rose_since a.failures b.failures c.failures keeps.never_falls) is.caused;
-  reliable = λ reliable. subst (λ bytes. IsOfReliable bytes fault) keeps.same (is.reliable (keeps.reliable_same ∙ reliable));
-  memory = λ le. is.memory (subst (λ n. limits.line ≤ n) (sym kept) le);
-}
+fault_then {limits} {a} {b} {c} {room} {room_now} {sink} {fault} n keeps opens kept is =
+    search (rules, comes_later, refused_later, rose_later, rose_since)
 
 -- ---- passes, one after the other
 
 pub passes_none : {T : Type 0} {answer : T} {sink : Type 0} (limits : Limits) (n : ℕ) (a : Seen) (d : DeskView) → n ≡ 0
     → Passes limits n a a d d sink (Ok answer)
-passes_none limits n a d none = record {
-  sources = sources_none a;
-  desk = desk_none limits a.bytes_of d;
-  opens = opens_none a.openings n none;
-  opens_some = record { of_old = omega arith; of_new = omega arith };
-  fault = tt;
-}
+passes_none limits n a d none = search (rules, sources_none, desk_none, opens_none)
 
 -- further passes
 pub passes_then : {T U V : Type 0} {limits : Limits} {a b c : Seen} {d e f : DeskView} {sink next last : Type 0} {answer : T} {then : U}
     {done : V} (m n k : ℕ) → k ≡ m + n → Passes limits m a b d e sink (Ok answer) → Passes limits n b c e f next (Ok then)
     → Passes limits k a c d f last (Ok done)
-passes_then {a = a} {b = b} {c = c} m n k is p q = record {
-  sources = sources_then p.sources q.sources;
-  desk = desk_then p.sources.same p.desk q.desk;
-  opens = opens_more a.openings b.openings c.openings m n k is p.opens q.opens;
-  opens_some = opens_then a.openings b.openings c.openings m n k (omega arith) p.opens q.opens_some;
-  fault = tt;
-}
+passes_then {a = a} {b = b} {c = c} m n k is p q = search (rules, sources_then, desk_then, opens_more, opens_then)
 
 -- as many passes
 pub passes_same : {T U : Type 0} {limits : Limits} {a b : Seen} {d e : DeskView} {sink next : Type 0} {answer : T} {done : U}
     (n k : ℕ) → k ≡ n → Passes limits n a b d e sink (Ok answer) → Passes limits k a b d e next (Ok done)
-passes_same n k is p = record {
-  sources = p.sources;
-  desk = p.desk;
-  opens = record { of_old = omega (arith, p.opens.of_old); of_new = omega (arith, p.opens.of_new) };
-  opens_some = record { of_old = omega (arith, p.opens_some.of_old); of_new = omega (arith, p.opens_some.of_new) };
-  fault = tt;
-}
+passes_same n k is p = search rules
 
 -- the same, where the further ones are broken off
 pub passes_stop : {T U : Type 0} {limits : Limits} {a b c : Seen} {d e f : DeskView} {sink next : Type 0} {answer : T}
     {fault : RunFault} (m n k : ℕ) → m + n ≤ k → Passes limits m a b d e sink (Ok answer)
     → Passes {T = U} limits n b c e f next (Err fault) → Passes {T = U} limits k a c d f next (Err fault)
-passes_stop {a = a} {b = b} {c = c} m n k le p q = record {
-  sources = sources_then p.sources q.sources;
-  desk = desk_then p.sources.same p.desk q.desk;
-  opens = tt;
-  opens_some = opens_then a.openings b.openings c.openings m n k le p.opens q.opens_some;
-  fault = fault_then m p.sources p.opens p.desk.room q.fault;
-}
+passes_stop {a = a} {b = b} {c = c} m n k le p q = search (rules, sources_then, desk_then, opens_then, fault_then)
 
 -- a write behind them fails
 pub passes_broken : {T U : Type 0} {limits : Limits} {a b : Seen} {d e : DeskView} {sink broken : Type 0} {answer : T}
     (n k written : ℕ) → n ≤ k → Passes limits n a b d e sink (Ok answer) → broken
     → Passes {T = U} limits k a b d e broken (Err (Write written))
-passes_broken {a = a} {b = b} n k written le p is = record {
-  sources = p.sources;
-  desk = p.desk;
-  opens = tt;
-  opens_some = record { of_old = omega (arith, p.opens_some.of_old); of_new = omega (arith, p.opens_some.of_new) };
-  fault = record { begun = tt; refused = tt; not_given = tt; later = tt; caused = is; reliable = λ reliable. tt; memory = λ le. tt };
-}
+passes_broken {a = a} {b = b} n k written le p is = search rules
 
 -- as many passes, with this answer
 pub passes_count : {T : Type 0} {limits : Limits} {a b : Seen} {d e : DeskView} {sink : Type 0} {result : Result T RunFault}
@@ -127,21 +89,7 @@ passes_count {limits = limits} {a = a} {b = b} {d = d} {e = e} {sink = sink} {re
 -- a fault of passes with another answer
 pub passes_err : {T U : Type 0} {limits : Limits} {n : ℕ} {a b : Seen} {d e : DeskView} {sink next : Type 0} {fault : RunFault}
     → (sink → next) → Passes {T = T} limits n a b d e sink (Err fault) → Passes {T = U} limits n a b d e next (Err fault)
-passes_err {a = a} {b = b} {sink = sink} {next = next} {fault = fault} f p = record {
-  sources = p.sources;
-  desk = p.desk;
-  opens = tt;
-  opens_some = p.opens_some;
-  fault = record {
-    begun = p.fault.begun;
-    refused = p.fault.refused;
-    not_given = p.fault.not_given;
-    later = p.fault.later;
-    caused = caused_as (Rose a.failures b.failures) sink next fault f p.fault.caused;
-    reliable = p.fault.reliable;
-    memory = p.fault.memory;
-  };
-}
+passes_err {a = a} {b = b} {sink = sink} {next = next} {fault = fault} f p = search (rules, caused_as)
 
 -- ---- a merge, between its opening and its closing
 
@@ -175,8 +123,8 @@ pass_done {a = a} {b = b} {c = c} p begun opened keeps closes same =
 -- any other end of it
 pass_ends : {T U R : Type 0} {r : Reels R} {limits : Limits} {a b c : Seen} {d e f : DeskView} {sink next : Type 0}
     {m n : Merge R} {reels : T} {fault : RunFault} → Passes limits 1 a b d d sink (Ok reels) → KeepsDesk limits a.bytes_of d e
-    → IsOpened r limits a.bytes_of m e → KeepsMerge r m n e f → KeepsSources b c → c.openings ≡ b.openings → IsPassFault limits a c d.room next fault
-    → Passes {T = U} limits 1 a c d f next (Err fault)
+    → IsOpened r limits a.bytes_of m e → KeepsMerge r m n e f → KeepsSources b c → c.openings ≡ b.openings
+    → IsPassFault limits a c d.room next fault → Passes {T = U} limits 1 a c d f next (Err fault)
 pass_ends p begun opened keeps closes same is =
     let opens = opens_kept same p.opens in
     record {

@@ -17,7 +17,7 @@ use Rattle.aide_merge.specs.RightAnswer.{Report, Causes}
 use Rattle.aide_report.specs.Runs.{Runs, HasAnswer, EndsWell, EndsEarly}
 use Rattle.aide_merge.specs.declared.outcome.Outcome.{Outcome}
 use Rattle.aide_merge.specs.declared.run_fault.RunFault.{RunFault}
-use Rattle.aide_merge.specs.declared.run_fault.RunFault.TheVariants.{Open, Database, Changed, Write}
+use Rattle.aide_merge.specs.declared.run_fault.RunFault.TheVariants.{Database, Write}
 use Rattle.aide_report.proofs.MissingLemmas.{Runs-exists}
 use Rattle.sha2.specs.Sha256.{sha256}
 

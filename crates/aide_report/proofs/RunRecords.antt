@@ -1,5 +1,5 @@
 -- How a run that writes the report comes to its promise: by the first readings, and by the writing that follows them.
-use Rattle.std.proofs.Common.{◌≡◌, ◌∙◌, ◌≤◌, ◌+◌, ℕ, List, Option, refl, subst, sym, arith}
+use Rattle.std.proofs.Common.{◌≡◌, ◌≤◌, ◌+◌, ℕ, List, Option, refl, subst, sym, arith}
 use Rattle.std.specs.Prelude.{false, Some, Result, Ok, Err}
 use Rattle.aide_db.specs.Database.{IsSound}
 use Rattle.aide_db.specs.DeskView.{DeskView}
@@ -26,7 +26,7 @@ use Rattle.aide_merge.specs.code.Desks.{ClearsDesk}
 use Rattle.aide_report.specs.code.Readings.{IsFindingFault}
 use Rattle.aide_merge.specs.declared.outcome.Outcome.{Outcome}
 use Rattle.aide_merge.specs.declared.run_fault.RunFault.{RunFault}
-use Rattle.aide_merge.specs.declared.run_fault.RunFault.TheVariants.{Open, Database, Changed, Write}
+use Rattle.aide_merge.specs.declared.run_fault.RunFault.TheVariants.{Write}
 use Rattle.aide_merge.proofs.BoundLemmas.{fits_limit, fits_within}
 use Rattle.aide_report.proofs.FaultLemmas.{answer_later, cause_by, first_later, right_later}
 use Rattle.aide_report.proofs.MissingLemmas.{front_by, later_over, nothing_front}
@@ -184,7 +184,8 @@ module _ (limits : Limits) (wish : Asked) (n m : ℕ) {a b c : Seen} {d e f : De
       record {
         over = λ old new told_old told_new r runs. (
           stops_hindered r (IsHindered old new sources sink) fault
-              (later_over limits a.bytes_of a.is_missing old new sources sink fault told_old told_new read.there read.sound is.later is.caused),
+              (later_over limits a.bytes_of a.is_missing old new sources sink fault told_old told_new read.there read.sound
+              is.later is.caused),
           front_by limits (report_over wish) a.bytes_of a.is_missing old new (s.delivered out) (s.delivered sent) told_old told_new
               read.there early r runs,
         );

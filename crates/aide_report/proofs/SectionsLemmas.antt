@@ -1,6 +1,6 @@
 -- The sections that have an entry, one after another.
 use Rattle.std.proofs.Common.{◌≡◌, ◌∙◌, ℕ, ◌+◌, ◌<◌, ◌≤◌, Bool, true, false, cond, List, [], ◌∷◌, ◌++◌, length, take}
-use Rattle.std.proofs.Common.{drop, get_or, refl, sym, ap, append-nil, length-append, arith}
+use Rattle.std.proofs.Common.{drop, get_or, refl, sym, ap, append-nil, length-append, arith, rules}
 use Rattle.std.specs.List.{flat_map, filter}
 use Rattle.std.proofs.lemmas.List.{drop_more, drop_all, take_more, take_all, take-append-drop}
 use Rattle.std.proofs.lemmas.List.Elements.{filter-append}
@@ -10,9 +10,8 @@ use Rattle.aide_db.specs.declared.side.Side.{Side}
 use Rattle.aide_merge.specs.Openings.{OpensExactly, OpensAtMost}
 use Rattle.aide_text.specs.Overview.{differs}
 use Rattle.aide_report.specs.Report.{is_silent, section_count}
-use Rattle.aide_report.specs.Sections.{has_entry, is_there, sections_of}
-use Rattle.aide_text.specs.Section.{all_sections, contents_of, fits, grouped_of, level_of}
-use Rattle.aide_attr.specs.Level.{reaches}
+use Rattle.aide_report.specs.Sections.{sections_of}
+use Rattle.aide_text.specs.Section.{all_sections, fits, grouped_of}
 use Rattle.aide_text.specs.declared.counts.Counts.{Counts}
 
 module _ {X : Type 0} (h : X → Bool) where
@@ -130,11 +129,7 @@ middle false b c e = cc
 
 there_fits : (options : Options) (counts : Counts) → length (sections_of options counts) ≤ fitting options.grouped
 unfolding fitting
-there_fits options counts =
-    wider (is_there options counts) (λ section. fits (grouped_of section) options.grouped)
-    (λ section. middle (reaches options.level (level_of section)) (fits (grouped_of section) options.grouped)
-    (has_entry counts (contents_of section)))
-    all_sections
+there_fits options counts = search (rules, wider, middle)
 
 by_silent : (options : Options) (counts : Counts) (silent : Bool)
     → (if silent then 0 else length (sections_of options counts)) ≤ most_sections

@@ -1,4 +1,4 @@
-use Rattle.std.proofs.Common.{◌∙◌, arith, refl, subst}
+use Rattle.std.proofs.Common.{◌∙◌, arith, refl, subst, rules}
 use Rattle.aide_db.specs.declared.side.Side.TheVariants.{Old, New}
 use Rattle.aide_merge.specs.code.ChangeView.{change_of}
 use Rattle.aide_merge.specs.code.Merging.{remaining}
@@ -12,52 +12,34 @@ use Rattle.aide_text.specs.Sheet.{Writing}
 use Rattle.aide_report.proofs.change_writer.put_entries.Goals as goal
 
 pub pass-init : goal.pass-init
-pass-init g c = record {
-  ready = c.requires.ready;
-  writes_on = c.requires.writes_on;
-  keeps = merge_none g.R.Reel c.args.merge.now c.args.desk.now;
-  writes = λ old new s t. writing_start (flat_map (g.T.ChangeWriter.text_of c.args.writer.now)
-      (remaining c.args.merge.now c.args.desk.now old new))
-      (on_sheet g.W.Sink c.args.out.now c.args.pen.now);
-  some = some_nothing (on_sheet g.W.Sink c.args.out.now c.args.pen.now);
-}
+pass-init g c = search (rules, merge_none, writing_start, some_nothing)
 
 pub read_due-requires : goal.read_due-requires
 read_due-requires g c = c.pass.invariant.ready
 
-pub returns-in-Err-clause-keeps : goal.returns-in-Err-clause-keeps
-returns-in-Err-clause-keeps g c =
-    merge_then c.pass.invariant.keeps c.read_due.ensures.keeps
+pub returns-in-Err : goal.returns-in-Err
+returns-in-Err g c = record {
+  keeps = merge_then c.pass.invariant.keeps c.read_due.ensures.keeps;
+  writes = λ old new s t. writing_so_far (c.pass.invariant.writes old new s t);
+  some = c.pass.invariant.some;
+  writes_on = search rules;
+  ended = search rules;
+  fault = (c.pass.invariant.writes_on, merge_fault c.pass.invariant.keeps c.in-Err.ensures.fault);
+}
 
-pub returns-in-Err-clause-writes : goal.returns-in-Err-clause-writes
-returns-in-Err-clause-writes g c old new s t = writing_so_far (c.pass.invariant.writes old new s t)
-
-pub returns-in-Err-clause-some : goal.returns-in-Err-clause-some
-returns-in-Err-clause-some g c = c.pass.invariant.some
-
-pub returns-in-Err-clause-fault : goal.returns-in-Err-clause-fault
-returns-in-Err-clause-fault g c =
-    (c.pass.invariant.writes_on, merge_fault c.pass.invariant.keeps c.in-Err.ensures.fault)
-
-pub returns-in-End-clause-keeps : goal.returns-in-End-clause-keeps
-returns-in-End-clause-keeps g c =
-    merge_then c.pass.invariant.keeps (merge_then c.read_due.ensures.keeps c.next.ensures.keeps)
-
-pub returns-in-End-clause-writes : goal.returns-in-End-clause-writes
-returns-in-End-clause-writes g c old new s t =
-    let stands = c.pass.invariant.keeps.stands in
-    writing_done (all_written (g.T.ChangeWriter.text_of c.args.writer.now) (remaining c.pass.merge c.pass.desk old new)
-    (c.in_default.ensures.read.same old new (stands Old old s) (stands New new t) ∙ c.in-End.ensures.step.end old new refl))
-    (c.pass.invariant.writes old new s t)
-
-pub returns-in-End-clause-some : goal.returns-in-End-clause-some
-returns-in-End-clause-some g c = c.pass.invariant.some
-
-pub returns-in-End-clause-writes_on : goal.returns-in-End-clause-writes_on
-returns-in-End-clause-writes_on g c = c.pass.invariant.writes_on
-
-pub returns-in-End-clause-ended : goal.returns-in-End-clause-ended
-returns-in-End-clause-ended g c = c.in-End.ensures.step.ended refl
+pub returns-in-End : goal.returns-in-End
+returns-in-End g c = record {
+  keeps = merge_then c.pass.invariant.keeps (merge_then c.read_due.ensures.keeps c.next.ensures.keeps);
+  writes = λ old new s t.
+      let stands = c.pass.invariant.keeps.stands in
+      writing_done (all_written (g.T.ChangeWriter.text_of c.args.writer.now) (remaining c.pass.merge c.pass.desk old new)
+      (c.in_default.ensures.read.same old new (stands Old old s) (stands New new t) ∙ c.in-End.ensures.step.end old new refl))
+      (c.pass.invariant.writes old new s t);
+  some = c.pass.invariant.some;
+  writes_on = c.pass.invariant.writes_on;
+  ended = c.in-End.ensures.step.ended refl;
+  fault = search rules;
+}
 
 pub returns-then-pen : goal.returns-then-pen
 returns-then-pen g c =

@@ -1,4 +1,4 @@
-use Rattle.std.proofs.Common.{◌∙◌, ap, arith, refl, sym}
+use Rattle.std.proofs.Common.{◌∙◌, ap, arith, refl, sym, rules}
 use Rattle.aide_db.specs.declared.side.Side.TheVariants.{Old, New}
 use Rattle.aide_merge.specs.RightAnswer.{IsHindered}
 use Rattle.aide_text.specs.Failures.{Rose}
@@ -19,108 +19,78 @@ count_pass-requires-clause-digests g c side text told =
 
 -- ---- a fault of the first readings
 
-pub returns-in-Err-clause-sources : goal.returns-in-Err-clause-sources
-returns-in-Err-clause-sources g c = c.read_both.ensures.sources
-
-pub returns-in-Err-clause-opens_some : goal.returns-in-Err-clause-opens_some
-returns-in-Err-clause-opens_some g c = opens_within _ _ 1 2 (omega arith) c.read_both.ensures.opens_some
-
-pub returns-in-Err-clause-found : goal.returns-in-Err-clause-found
-returns-in-Err-clause-found g c = tt
-
-pub returns-in-Err-clause-fault : goal.returns-in-Err-clause-fault
-returns-in-Err-clause-fault g c = c.in-Err.ensures.fault
-
-pub returns-in-Err-clause-over : goal.returns-in-Err-clause-over
-returns-in-Err-clause-over g c = c.in-Err.ensures.over
-
-pub returns-in-Err-clause-desk : goal.returns-in-Err-clause-desk
-returns-in-Err-clause-desk g c = c.read_both.ensures.desk
+pub returns-in-Err : goal.returns-in-Err
+returns-in-Err g c = record {
+  sources = c.read_both.ensures.sources;
+  opens = search rules;
+  opens_some = opens_within _ _ 1 2 (omega arith) c.read_both.ensures.opens_some;
+  found = tt;
+  gave = search rules;
+  fault = c.in-Err.ensures.fault;
+  over = c.in-Err.ensures.over;
+  desk = c.read_both.ensures.desk;
+}
 
 -- ---- the counting pass
 
-pub returns-in-Ok-count_pass-clause-sources : goal.returns-in-Ok-count_pass-clause-sources
-returns-in-Ok-count_pass-clause-sources g c = sources_then c.read_both.ensures.sources c.count_pass.ensures.passes.sources
-
-pub returns-in-Ok-count_pass-clause-opens : goal.returns-in-Ok-count_pass-clause-opens
-returns-in-Ok-count_pass-clause-opens g c =
-    opens_more _ _ _ 1 1 _ refl c.in-Ok.ensures.opens c.in-Ok-count_pass.ensures.passes.opens
-
-pub returns-in-Ok-count_pass-clause-opens_some : goal.returns-in-Ok-count_pass-clause-opens_some
-returns-in-Ok-count_pass-clause-opens_some g c =
-    opens_then _ _ _ 1 1 _ (omega arith) c.in-Ok.ensures.opens c.count_pass.ensures.passes.opens_some
-
-pub returns-in-Ok-count_pass-clause-found : goal.returns-in-Ok-count_pass-clause-found
-returns-in-Ok-count_pass-clause-found g c =
-    let read = c.in-Ok.ensures.read in
-    let same = c.read_both.ensures.sources.same in
-    record {
-      sound = read.sound;
-      there = read.there;
-      of_texts = λ old new told_old told_new. record {
-        counts = counts_are c.args.limits c.args.options.now c.in-Ok-count_pass.counts old new
-            (read.sound Old old told_old) (read.sound New new told_new)
-            (c.in-Ok-count_pass.ensures.counts old new
-            (ap (λ bytes. bytes Old) same ∙ told_old) (ap (λ bytes. bytes New) same ∙ told_new));
-        skipped_old = read.skipped_old old told_old;
-        skipped_new = read.skipped_new new told_new;
+pub returns-in-Ok-count_pass : goal.returns-in-Ok-count_pass
+returns-in-Ok-count_pass g c = record {
+  sources = sources_then c.read_both.ensures.sources c.count_pass.ensures.passes.sources;
+  opens = opens_more _ _ _ 1 1 _ refl c.in-Ok.ensures.opens c.in-Ok-count_pass.ensures.passes.opens;
+  opens_some = opens_then _ _ _ 1 1 _ (omega arith) c.in-Ok.ensures.opens c.count_pass.ensures.passes.opens_some;
+  found =
+      let read = c.in-Ok.ensures.read in
+      let same = c.read_both.ensures.sources.same in
+      record {
+        sound = read.sound;
+        there = read.there;
+        of_texts = λ old new told_old told_new. record {
+          counts = counts_are c.args.limits c.args.options.now c.in-Ok-count_pass.counts old new
+              (read.sound Old old told_old) (read.sound New new told_new)
+              (c.in-Ok-count_pass.ensures.counts old new
+              (ap (λ bytes. bytes Old) same ∙ told_old) (ap (λ bytes. bytes New) same ∙ told_new));
+          skipped_old = read.skipped_old old told_old;
+          skipped_new = read.skipped_new new told_new;
+        };
+        digests = read.digests;
       };
-      digests = read.digests;
-    }
-
-pub returns-in-Ok-count_pass-clause-fault : goal.returns-in-Ok-count_pass-clause-fault
-returns-in-Ok-count_pass-clause-fault g c = tt
-
-pub returns-in-Ok-count_pass-clause-over : goal.returns-in-Ok-count_pass-clause-over
-returns-in-Ok-count_pass-clause-over g c wish old new told_old told_new r runs = tt
-
-pub returns-in-Ok-count_pass-clause-desk : goal.returns-in-Ok-count_pass-clause-desk
-returns-in-Ok-count_pass-clause-desk g c =
-    clears_then c.read_both.ensures.sources.same c.read_both.ensures.desk c.count_pass.ensures.passes.desk
-
-pub returns-in-Ok-count_pass-clause-gave : goal.returns-in-Ok-count_pass-clause-gave
-returns-in-Ok-count_pass-clause-gave g c =
-    gave_then c.read_both.ensures.sources.at_same c.in-Ok.ensures.gave c.in-Ok-count_pass.ensures.gave
+  gave = gave_then c.read_both.ensures.sources.at_same c.in-Ok.ensures.gave c.in-Ok-count_pass.ensures.gave;
+  fault = tt;
+  over = λ wish old new told_old told_new r runs. tt;
+  desk = clears_then c.read_both.ensures.sources.same c.read_both.ensures.desk c.count_pass.ensures.passes.desk;
+}
 
 -- ---- a fault of it
 
-pub returns-in-Err-count_pass-clause-sources : goal.returns-in-Err-count_pass-clause-sources
-returns-in-Err-count_pass-clause-sources g c = sources_then c.read_both.ensures.sources c.count_pass.ensures.passes.sources
-
-pub returns-in-Err-count_pass-clause-opens_some : goal.returns-in-Err-count_pass-clause-opens_some
-returns-in-Err-count_pass-clause-opens_some g c =
-    opens_then _ _ _ 1 1 _ (omega arith) c.in-Ok.ensures.opens c.count_pass.ensures.passes.opens_some
-
-pub returns-in-Err-count_pass-clause-found : goal.returns-in-Err-count_pass-clause-found
-returns-in-Err-count_pass-clause-found g c = tt
-
-pub returns-in-Err-count_pass-clause-desk : goal.returns-in-Err-count_pass-clause-desk
-returns-in-Err-count_pass-clause-desk g c =
-    clears_then c.read_both.ensures.sources.same c.read_both.ensures.desk c.count_pass.ensures.passes.desk
-
-pub returns-in-Err-count_pass-clause-fault : goal.returns-in-Err-count_pass-clause-fault
-returns-in-Err-count_pass-clause-fault g c =
-    let fault = c.in-Err-count_pass.fault in
-    let bytes_of = g.S.Sources.bytes_of c.args.sources.now in
-    let is = fault_then 1 c.read_both.ensures.sources c.in-Ok.ensures.opens c.read_both.ensures.desk.room
-    c.in-Err-count_pass.ensures.passes.fault in
-    record {
-      right = right_later c.args.limits bytes_of c.in-Ok.ensures.read.sound fault is.later;
-      first = λ wish. answer_later c.args.limits wish bytes_of fault is.later;
-      opens_first = first_later c.args.limits bytes_of (g.S.Sources.openings c.args.sources.now)
-          (g.S.Sources.openings c.count_pass.new.sources) fault is.later;
-      refused = is.refused;
-      not_given = is.not_given;
-      caused = is.caused;
-      reliable = is.reliable;
-      memory = is.memory;
-    }
-
-pub returns-in-Err-count_pass-clause-over : goal.returns-in-Err-count_pass-clause-over
-returns-in-Err-count_pass-clause-over g c wish old new told_old told_new r runs =
-    let is = fault_then 1 c.read_both.ensures.sources c.in-Ok.ensures.opens c.read_both.ensures.desk.room
-    c.in-Err-count_pass.ensures.passes.fault in
-    let rose = Rose (g.S.Sources.failures c.args.sources.now) (g.S.Sources.failures c.count_pass.new.sources) in
-    stops_hindered r (IsHindered old new rose ⊥) c.in-Err-count_pass.fault
-    (later_over c.args.limits (g.S.Sources.bytes_of c.args.sources.now) (g.S.Sources.is_missing c.args.sources.now) old new rose ⊥
-    c.in-Err-count_pass.fault told_old told_new c.in-Ok.ensures.read.there c.in-Ok.ensures.read.sound is.later is.caused)
+pub returns-in-Err-count_pass : goal.returns-in-Err-count_pass
+returns-in-Err-count_pass g c = record {
+  sources = sources_then c.read_both.ensures.sources c.count_pass.ensures.passes.sources;
+  opens = search rules;
+  opens_some = opens_then _ _ _ 1 1 _ (omega arith) c.in-Ok.ensures.opens c.count_pass.ensures.passes.opens_some;
+  found = tt;
+  gave = search rules;
+  fault =
+      let fault = c.in-Err-count_pass.fault in
+      let bytes_of = g.S.Sources.bytes_of c.args.sources.now in
+      let is = fault_then 1 c.read_both.ensures.sources c.in-Ok.ensures.opens c.read_both.ensures.desk.room
+      c.in-Err-count_pass.ensures.passes.fault in
+      record {
+        right = right_later c.args.limits bytes_of c.in-Ok.ensures.read.sound fault is.later;
+        first = λ wish. answer_later c.args.limits wish bytes_of fault is.later;
+        opens_first = first_later c.args.limits bytes_of (g.S.Sources.openings c.args.sources.now)
+            (g.S.Sources.openings c.count_pass.new.sources) fault is.later;
+        refused = is.refused;
+        not_given = is.not_given;
+        caused = is.caused;
+        reliable = is.reliable;
+        memory = is.memory;
+      };
+  over = λ wish old new told_old told_new r runs.
+      let is = fault_then 1 c.read_both.ensures.sources c.in-Ok.ensures.opens c.read_both.ensures.desk.room
+      c.in-Err-count_pass.ensures.passes.fault in
+      let rose = Rose (g.S.Sources.failures c.args.sources.now) (g.S.Sources.failures c.count_pass.new.sources) in
+      stops_hindered r (IsHindered old new rose ⊥) c.in-Err-count_pass.fault
+      (later_over c.args.limits (g.S.Sources.bytes_of c.args.sources.now) (g.S.Sources.is_missing c.args.sources.now) old new rose ⊥
+      c.in-Err-count_pass.fault told_old told_new c.in-Ok.ensures.read.there c.in-Ok.ensures.read.sound is.later is.caused);
+  desk = clears_then c.read_both.ensures.sources.same c.read_both.ensures.desk c.count_pass.ensures.passes.desk;
+}

@@ -1,11 +1,10 @@
-use Rattle.std.proofs.Common.{◌∙◌, sym, ap}
+use Rattle.std.proofs.Common.{◌∙◌, sym, ap, rules}
 use Rattle.std.specs.Prelude.{not}
 use Rattle.aide_attr.specs.Attr.{all_attrs}
 use Rattle.aide_attr.specs.Set.{has}
 use Rattle.aide_merge.specs.code.ChangeView.{change_of}
 use Rattle.aide_report.specs.Entries.{entry_details}
 use Rattle.aide_merge.specs.Said.{shows_at, shows_any}
-use Rattle.aide_text.specs.PenSheet.{on_sheet}
 use Rattle.aide_text.specs.Layout.{path_line}
 use Rattle.aide_text.specs.declared.section.Contents.TheVariants.{Detailed}
 use Rattle.aide_report.proofs.EntriesLemmas.{shown_as, text_of_one, text_of_none}
@@ -26,8 +25,4 @@ returns-then-not-is_empty g c =
 
 pub returns-else-not-is_empty : goal.returns-else-not-is_empty
 unfolding shows_any
-returns-else-not-is_empty g c =
-    wrote_as (text_of_none c.args.options.now Detailed (change_of c.args.change)
-    (sym (any_in c.said_of.result.0 (shows_at c.args.options.now (change_of c.args.change).1) c.is_empty.result c.said_of.ensures.shown
-    c.is_empty.ensures) ∙ ap not c.if-not-is_empty.false))
-    (wrote_nothing (on_sheet g.W.Sink c.args.out.now c.args.pen.now))
+returns-else-not-is_empty g c = search (rules, wrote_as, text_of_none, any_in, wrote_nothing)

@@ -1,7 +1,6 @@
-use Rattle.std.proofs.Common.{◌∙◌, sym}
+use Rattle.std.proofs.Common.{◌∙◌, sym, rules}
 use Rattle.aide_merge.specs.code.ChangeView.{change_of}
 use Rattle.aide_report.proofs.EntriesLemmas.{listed_text, unlisted_text}
-use Rattle.aide_text.specs.PenSheet.{on_sheet}
 use Rattle.aide_text.proofs.Sheets.{wrote_as, wrote_nothing}
 use Rattle.aide_report.proofs.entries.put_change.Goals as goal
 
@@ -11,7 +10,4 @@ returns-then-lists g c =
     c.put_listed.ensures
 
 pub returns-else-lists : goal.returns-else-lists
-returns-else-lists g c =
-    wrote_as (unlisted_text c.args.options.now c.args.contents (change_of c.args.change) c.in_default.not-Detailed
-    (sym c.lists.ensures ∙ c.if-lists.false))
-    (wrote_nothing (on_sheet g.W.Sink c.args.out.now c.args.pen.now))
+returns-else-lists g c = search (rules, wrote_as, unlisted_text, wrote_nothing)

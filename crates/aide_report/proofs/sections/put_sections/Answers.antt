@@ -1,4 +1,4 @@
-use Rattle.std.proofs.Common.{◌∙◌, ◌+◌, ap, sym, subst, arith, drop, get_or}
+use Rattle.std.proofs.Common.{◌∙◌, ◌+◌, ap, sym, subst, arith, drop, get_or, rules}
 use Rattle.std.specs.List.{flat_map, filter}
 use Rattle.aide_db.specs.declared.side.Side.TheVariants.{Old, New}
 use Rattle.aide_merge.specs.code.Digests.{AreDigests}
@@ -62,19 +62,11 @@ pub returns-in-Err-clause-pen : goal.returns-in-Err-clause-pen
 returns-in-Err-clause-pen g c = pen_then c.loop-section.invariant.some c.in-Err.ensures.pen
 
 pub returns-clause-passes : goal.returns-clause-passes
-returns-clause-passes g c =
-    let h = is_there c.args.plan.now.task.now.options c.args.plan.now.finding.now.counts in
-    let i = c.loop-section.section-index in
-    passes_same (passed h all_sections i) _ (sym (passed_all h all_sections i (omega arith)))
-    c.loop-section.invariant.passes
+returns-clause-passes g c = search (rules, passes_same, passed, passed_all)
 
 pub returns-clause-writes : goal.returns-clause-writes
 unfolding sections_text
-returns-clause-writes g c old new told_old told_new =
-    let h = is_there c.args.plan.now.task.now.options c.args.plan.now.finding.now.counts in
-    let i = c.loop-section.section-index in
-    let f = section_text c.args.plan.now.task.now.options (pass_of old new) in
-    writing_done (rest_end h f all_sections i (omega arith)) (c.loop-section.invariant.writes old new told_old told_new)
+returns-clause-writes g c old new told_old told_new = search (rules, writing_done, rest_end)
 
 pub returns-clause-pen : goal.returns-clause-pen
 returns-clause-pen g c = record { some = c.loop-section.invariant.some; writes_on = c.loop-section.invariant.writes_on; written = tt }
