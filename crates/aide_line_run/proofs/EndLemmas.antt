@@ -1,10 +1,9 @@
 -- How a run with a trusted pair ends, by what has gone out and what was found of all four databases.
-use Rattle.std.specs.Prelude.{◌≡◌, ◌⊎◌, ℕ, Option, Some, None, Result, Ok, Err, List, [], ◌∷◌, ◌++◌, map, true, false}
+use Rattle.std.specs.Prelude.{◌≡◌, ◌⊎◌, ℕ, Option, Some, None, Err, List, [], ◌∷◌, ◌++◌, map, true, false}
 use Rattle.std.proofs.Common.{◌∙◌, ap, append_assoc, inl, inr, refl, rules, subst, sym}
 use Rattle.std.proofs.lemmas.Grind.{flat_map-append}
 use Rattle.std.proofs.lemmas.List.{map-append}
 use Rattle.std.specs.FinMap.Entries.{is_sorted}
-use Rattle.std.specs.Io.KnownBytes.{Appends}
 use Rattle.aide_db.specs.DeskView.{DeskView}
 use Rattle.aide_db.specs.Map.{database_of}
 use Rattle.aide_db.specs.declared.limits.Limits.{Limits}
@@ -18,16 +17,12 @@ use Rattle.aide_line_run.specs.ChangeLines.{change_lines}
 use Rattle.aide_merge.specs.Said.{PathChange}
 use Rattle.aide_line_run.specs.LineCounts.{line_counts}
 use Rattle.aide_line_run.specs.LineRuns.{line_outcome}
-use Rattle.aide_merge.specs.RightAnswer.{TellsSide}
-use Rattle.aide_merge.specs.RightAnswer.{Report}
 use Rattle.aide_report.specs.Runs.{report_over}
 use Rattle.aide_merge.specs.Seen.{Seen}
 use Rattle.aide_merge.specs.code.Merging.{pass_of}
 use Rattle.aide_line_run.specs.code.LineTally.{tally}
 use Rattle.aide_merge.specs.code.Merging.{remaining}
 use Rattle.aide_merge.specs.code.BothRead.{AreRead}
-use Rattle.aide_merge.specs.declared.outcome.Outcome.{Outcome}
-use Rattle.aide_merge.specs.declared.run_fault.RunFault.{RunFault}
 use Rattle.aide_merge.specs.declared.run_fault.RunFault.TheVariants.{Open, Database, Changed, Write}
 use Rattle.aide_line_run.proofs.LineLaws.{tally_is}
 use Rattle.aide_line_run.proofs.LineRunLemmas.{texts_read}
@@ -36,7 +31,7 @@ use Rattle.aide_merge.proofs.TextLemmas.{pass_is_changes}
 use Rattle.aide_line_run.specs.Lines.{BeginsLines, lines_framed, by_texts, last_line, facts_of_texts}
 use Rattle.aide_line_run.specs.Lines.{lines_of_texts, first_line}
 use Rattle.aide_line_run.specs.BeforeFault.{AreBeforeFaults, FourTexts}
-use Rattle.aide_line_run.specs.RunEnds.{AreAllSound, CutsFronts, CutsLines, RunsLines, SendsWholeOf, answer_by}
+use Rattle.aide_line_run.specs.RunEnds.{AreAllSound, CutsFronts, CutsLines}
 use Rattle.aide_line_run.specs.RunEnds.{lines_before_last}
 use Rattle.aide_line_run.specs.Listed.{Leaves, ListRead, leaves_between}
 use Rattle.aide_line_run.specs.Sought.{Accounted, accounted_line, accounted_lines, changes_of, sought_by}
@@ -50,9 +45,8 @@ use Rattle.aide_line_run.specs.declared.write.PairsFound.{PairsFound}
 use Rattle.aide_line_run.proofs.FrontLaws.{front_is_changes}
 use Rattle.aide_line_run.proofs.FrontLemmas.{reads_front}
 use Rattle.aide_line_run.proofs.Laws.{maps_sorted, maps_sought, pass_sorted, sought_is}
-use Rattle.aide_line_run.proofs.PairLemmas.{IsOkay, okay_over}
 
-true_false : true ≡ false → ⊥
+pub true_false : true ≡ false → ⊥
 true_false e = cc
 
 -- ---- a beginning
@@ -238,7 +232,7 @@ module _ {R : Type 0} {r : Reels R} {limits : Limits} {a b s t : Seen} {m : Merg
             let is = texts_read old new (compared_read told.read) told_old told_new in
             sym (λ i. line_outcome (counted i) (is.skipped_old i) (is.skipped_new i))
 
-    all_sound : {n : Merges R} {f w : DeskView} {found : PairsFound} → ArePairsRead r m n e f v w found
+    pub all_sound : {n : Merges R} {f w : DeskView} {found : PairsFound} → ArePairsRead r m n e f v w found
         → AreAllSound limits old new trusted_old trusted_new
     all_sound read = record {
       of_old = (compared_read read).sound Old old told_old;
@@ -324,61 +318,13 @@ module _ {R : Type 0} {r : Reels R} {limits : Limits} {a b s t : Seen} {m : Merg
           ⊎ CutsLast r list wish trusted_wish m n e f v w before after fault
           → CutsFronts limits list wish trusted_wish texts fronts before after fault
       fronts_by are before after fault cut = elim cut [
-        | inl early ↦ fronts_early before after fault (over_maps are before after (done_begins list wish trusted_wish fronts.old fronts.new fronts.trusted_old
-            fronts.trusted_new early.done before after fault early.are early.part
+        | inl early ↦ fronts_early before after fault (over_maps are before after (done_begins list wish trusted_wish
+            fronts.old fronts.new fronts.trusted_old fronts.trusted_new early.done before after fault early.are early.part
             (reads_front r.to_come m.compared e Old (p.opened.limits_of Old) (p.opened.stands Old old told_old) are.of_old)
             (reads_front r.to_come m.compared e New (p.opened.limits_of New) (p.opened.stands New new told_new) are.of_new)
-            (reads_front r.to_come m.trusted v Old (q.opened.limits_of Old) (q.opened.stands Old trusted_old told_trusted_old) are.of_trusted_old)
-            (reads_front r.to_come m.trusted v New (q.opened.limits_of New) (q.opened.stands New trusted_new told_trusted_new) are.of_trusted_new)))
+            (reads_front r.to_come m.trusted v Old (q.opened.limits_of Old) (q.opened.stands Old trusted_old told_trusted_old)
+            are.of_trusted_old)
+            (reads_front r.to_come m.trusted v New (q.opened.limits_of New) (q.opened.stands New trusted_new told_trusted_new)
+            are.of_trusted_new)))
         | inr last ↦ fronts_late before after fault last.written (all_sound last.told.read)
       ]
-
--- ---- the answer over four texts that are there and sound
-
-okay_answer : (compared trusted : Result Report RunFault) (whole : Report) (r : Result Report PairFault) → IsOkay compared → IsOkay trusted
-    → answer_by compared trusted (Some whole) r → r ≡ Ok whole
-okay_answer (Err fault) trusted whole r okay other is = absurd okay
-okay_answer (Ok report) (Err fault) whole r okay other is = absurd other
-okay_answer (Ok report) (Ok second) whole r okay other is = is
-
-whole_as : (r : Result Report PairFault) (whole : Report) (outcome : Outcome) (before after : Option (List ℕ)) → r ≡ Ok whole
-    → (whole.outcome ≡ outcome) × Appends before after whole.text → SendsWholeOf r outcome before after
-whole_as r whole outcome before after is ends =
-    subst (λ (x : Result Report PairFault). SendsWholeOf x outcome before after) (sym is) ends
-
--- after `Ok` the whole answer has gone out
-pub ends_whole : {R : Type 0} {r : Reels R} {limits : Limits} {a b s t : Seen} {m n : Merges R} {e f v w : DeskView}
-    {found : PairsFound} (p : AreOpened r limits a b e m.compared) (q : AreOpened r limits s t v m.trusted)
-    (list : ListRead) (wish trusted_wish : Asked) (before after : Option (List ℕ))
-    → HasToldAll r list wish trusted_wish m n e f v w found (Appends before after)
-    → (old new trusted_old trusted_new : Option (List ℕ))
-    → TellsSide (a.bytes_of Old) (a.is_missing Old) old × TellsSide (a.bytes_of New) (a.is_missing New) new
-    → TellsSide (s.bytes_of Old) (s.is_missing Old) trusted_old × TellsSide (s.bytes_of New) (s.is_missing New) trusted_new
-    → (r : Result Report PairFault) → RunsLines limits list wish trusted_wish old new trusted_old trusted_new r
-    → SendsWholeOf r (line_outcome found.counts found.compared.skipped_old found.compared.skipped_new) before after
-ends_whole p q list wish trusted_wish before after told None new trusted_old trusted_new tells trusted_tells r runs =
-    absurd (true_false (sym tells.0 ∙ p.there Old))
-ends_whole p q list wish trusted_wish before after told (Some old) None trusted_old trusted_new tells trusted_tells r runs =
-    absurd (true_false (sym tells.1 ∙ p.there New))
-ends_whole p q list wish trusted_wish before after told (Some old) (Some new) None trusted_new tells trusted_tells r runs =
-    absurd (true_false (sym trusted_tells.0 ∙ q.there Old))
-ends_whole p q list wish trusted_wish before after told (Some old) (Some new) (Some trusted_old) None tells trusted_tells r runs =
-    absurd (true_false (sym trusted_tells.1 ∙ q.there New))
-ends_whole {limits = limits} {a = a} {s = s} p q list wish trusted_wish before after told (Some old) (Some new) (Some trusted_old)
-    (Some trusted_new) tells trusted_tells r runs =
-    let read = compared_read p q told.read in
-    let trusted_read = trusted_read p q told.read in
-    let sound = all_sound p q list wish trusted_wish old new trusted_old trusted_new tells.0 tells.1 trusted_tells.0 trusted_tells.1
-    told.read in
-    whole_as r (lines_of_texts list wish trusted_wish old new trusted_old trusted_new) _ before after
-    (okay_answer runs.compared runs.trusted (lines_of_texts list wish trusted_wish old new trusted_old trusted_new) r
-    (okay_over limits wish a.bytes_of a.is_missing (Some old) (Some new) tells.0 tells.1 read.there read.sound runs.compared
-    runs.compared_runs)
-    (okay_over limits trusted_wish s.bytes_of s.is_missing (Some trusted_old) (Some trusted_new) trusted_tells.0 trusted_tells.1
-    trusted_read.there trusted_read.sound runs.trusted runs.trusted_runs)
-    runs.answer) (
-      outcome_is p q list wish trusted_wish old new trusted_old trusted_new tells.0 tells.1 trusted_tells.0 trusted_tells.1 sound told,
-      subst (λ text. Appends before after text)
-          (told_is p q list wish trusted_wish old new trusted_old trusted_new tells.0 tells.1 trusted_tells.0 trusted_tells.1 sound told)
-          told.goes,
-    )

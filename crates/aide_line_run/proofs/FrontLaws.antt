@@ -25,7 +25,8 @@ use Rattle.aide_merge.specs.Merged.{merged}
 use Rattle.aide_merge.specs.code.Merging.{pass_of}
 use Rattle.aide_merge.proofs.MergeLemmas.{changes-merged}
 use Rattle.aide_line_run.specs.BeforeFault.{EndsAtFault, IsBeforeFault}
-use Rattle.aide_line_run.proofs.FrontLemmas.{front_lines, head_more, head_of, heads_cut, tails}
+use Rattle.aide_line_run.proofs.FrontLemmas.{front_lines}
+use Rattle.aide_line_run.proofs.FrontLines.{head_more, head_of, heads_cut, tails}
 use Rattle.aide_line_run.proofs.SoughtLemmas.{T_true}
 
 -- ---- there are such lines
@@ -177,7 +178,8 @@ front_sorted : (limit : ℕ) (front : List ℕ) → IsFront limit (lines front) 
 front_sorted limit front f =
     let whole : Limits = record { line = limit; bytes = length f.text } in
     let head = head_more f.text front f.more f.goes_on in
-    sorted_first (entries_of front) _ (ap (is_sorted path_cmp) (sym (heads_cut (head_of f.text) (head_of front) head.0 0 head.1 (omega arith)))
+    sorted_first (entries_of front) _
+    (ap (is_sorted path_cmp) (sym (heads_cut (head_of f.text) (head_of front) head.0 0 head.1 (omega arith)))
     ∙ sound_sorted whole f.text (f.database, omega arith))
 
 before_fault_sorted : (limits : Limits) (text front : List ℕ) → IsBeforeFault limits text front

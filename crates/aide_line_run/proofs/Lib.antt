@@ -1,3 +1,4 @@
+pub mod FrontLines
 pub mod FrontLemmas
 pub mod FrontLaws
 pub mod SoughtLemmas
@@ -8,6 +9,7 @@ pub mod Laws
 pub mod PairLemmas
 pub mod ReadLemmas
 pub mod EndLemmas
+pub mod WholeLemmas
 pub mod WrittenLaws
 pub mod RunLemmas
 pub mod LineLaws

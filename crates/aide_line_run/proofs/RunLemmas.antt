@@ -29,7 +29,8 @@ use Rattle.aide_line_run.specs.declared.pair_fault.PairFault.{PairFault}
 use Rattle.aide_line_run.specs.declared.pair_fault.PairFault.TheVariants.{Compared, Trusted}
 use Rattle.aide_line_run.specs.declared.walk.Merges.{Merges}
 use Rattle.aide_line_run.specs.declared.write.PairsFound.{PairsFound}
-use Rattle.aide_line_run.proofs.EndLemmas.{compared_read, cut_by, cut_none, ends_whole, fronts_by, fronts_none, trusted_read}
+use Rattle.aide_line_run.proofs.EndLemmas.{compared_read, cut_by, cut_none, fronts_by, fronts_none, trusted_read}
+use Rattle.aide_line_run.proofs.WholeLemmas.{ends_whole}
 use Rattle.aide_line_run.proofs.ReadLemmas.{faults_of_pairs, four_as, four_behind, leaves_pair, opens_closed, stops_over}
 use Rattle.aide_line_run.proofs.TallyLemmas.{all_accounted, all_alone}
 

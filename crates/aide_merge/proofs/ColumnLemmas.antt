@@ -43,8 +43,8 @@ stage_columns (Failed fault) bytes c list held text is unfailed holds there s = 
 stage_columns _ bytes c list held text is unfailed holds there s = search (rules, none_at)
 
 -- a side that is not due has an entry on the desk, or has ended
-pub here_or_ended : (there : Type 0) (stage : Stage) (next : NextEntry) → next ≢ Due → (next ≡ Here → there) → (next ≡ AtEnd → stage ≡ Ended)
-    → there ⊎ (stage ≡ Ended)
+pub here_or_ended : (there : Type 0) (stage : Stage) (next : NextEntry) → next ≢ Due → (next ≡ Here → there)
+    → (next ≡ AtEnd → stage ≡ Ended) → there ⊎ (stage ≡ Ended)
 here_or_ended there stage Due due here ended = absurd (due refl)
 here_or_ended there stage Here due here ended = inl (here refl)
 here_or_ended there stage AtEnd due here ended = inr (ended refl)

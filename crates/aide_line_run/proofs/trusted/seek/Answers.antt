@@ -36,7 +36,8 @@ returns-in-None-clause-sought g c =
       same = λ old new s t.
           seek_none path (remaining c.read_due.new.self c.read_due.new.desk old new)
           (upcoming_none c.read_due.new.self c.read_due.new.desk read.ready read.not_due c.in-None.ensures old new)
-          ∙ sym (ap (seek path) (front_same c.seek.invariant.ready c.seek.invariant.within c.read_due.ensures.keeps read old new (on Old old s) (on New new t)))
+          ∙ sym (ap (seek path) (front_same c.seek.invariant.ready c.seek.invariant.within c.read_due.ensures.keeps read old new
+          (on Old old s) (on New new t)))
           ∙ sym (c.seek.invariant.same old new s t);
     }
 
@@ -57,7 +58,8 @@ returns-then-not-is_before-clause-sought g c =
           c.in-Some.ensures old new in
           seek_here path (change_of c.in-Some.trusted) one.0 (remaining c.read_due.new.self c.read_due.new.desk old new) one.1
           (sym c.if-not-is_before.ensures)
-          ∙ sym (ap (seek path) (front_same c.seek.invariant.ready c.seek.invariant.within c.read_due.ensures.keeps read old new (on Old old s) (on New new t)))
+          ∙ sym (ap (seek path) (front_same c.seek.invariant.ready c.seek.invariant.within c.read_due.ensures.keeps read old new
+          (on Old old s) (on New new t)))
           ∙ sym (c.seek.invariant.same old new s t);
     }
 
@@ -72,7 +74,8 @@ seek-preserved g c =
       within = passed.within (read.within c.seek.invariant.within);
       keeps = merge_then c.seek.invariant.keeps (merge_then c.read_due.ensures.keeps c.pass_on.ensures.keeps);
       same = λ old new s t. c.seek.invariant.same old new s t
-          ∙ ap (seek path) (front_same c.seek.invariant.ready c.seek.invariant.within c.read_due.ensures.keeps read old new (on Old old s) (on New new t))
+          ∙ ap (seek path) (front_same c.seek.invariant.ready c.seek.invariant.within c.read_due.ensures.keeps read old new
+          (on Old old s) (on New new t))
           ∙ seek_past path (change_of c.in-Some.trusted) (remaining c.pass_on.new.self c.read_due.new.desk old new)
           (remaining c.read_due.new.self c.read_due.new.desk old new) (passed.gives old new) (sym c.if-not-is_before.ensures);
     }

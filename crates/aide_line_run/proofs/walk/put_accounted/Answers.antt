@@ -42,7 +42,8 @@ returns-in-End-clause-walked g c =
     walk_ended g.R.Reel (list_read c.args.terms.now.list) c.args.terms.now.options.now c.args.merges.now c.args.desk.now
     c.args.trusted_desk.now c.pass.invariant.walking
     c.pass.invariant.keeps
-    (λ old new s t. front_same c.pass.invariant.ready c.pass.invariant.within c.read_due.ensures.keeps c.in_default.ensures.read old new s t ∙ c.in-End.ensures.step.end old new refl)
+    (λ old new s t. front_same c.pass.invariant.ready c.pass.invariant.within c.read_due.ensures.keeps
+    c.in_default.ensures.read old new s t ∙ c.in-End.ensures.step.end old new refl)
 
 pub returns-in-End-clause-ended : goal.returns-in-End-clause-ended
 returns-in-End-clause-ended g c = search rules
@@ -71,13 +72,15 @@ returns-then-pen-clause-walked g c =
     c.pass.invariant.keeps change c.account_of-account.result step.changes
     (record { compared = c.next.new.self; trusted = c.seek.new.merge }) c.read_due.new.desk c.seek.new.desk c.put_counted.new.counts
     (on_sheet g.W.Sink c.put_counted.new.out c.put_counted.new.pen)
-    (λ old new s t. front_same c.pass.invariant.ready c.pass.invariant.within c.read_due.ensures.keeps c.in_default.ensures.read old new s t ∙ step.gives old new) step.shows
+    (λ old new s t. front_same c.pass.invariant.ready c.pass.invariant.within c.read_due.ensures.keeps
+    c.in_default.ensures.read old new s t ∙ step.gives old new) step.shows
     c.in_default-seek.ensures.sought.same (λ old new trusted_old trusted_new s t. c.account_of-account.ensures trusted_old trusted_new
     ∙ ap (λ m. account_by (same_as change.1 (found_at change.0 (remaining c.seek.new.merge c.seek.new.desk trusted_old trusted_new)))
     (left_by (list_read c.args.terms.now.list) m change))
     (measures_known g.R.Reel.to_come c.read_due.new.self c.next.new.self c.read_due.new.desk old new c.in_default.ensures.read.ready
-    (c.in_default.ensures.read.within c.pass.invariant.within) c.in_default.ensures.read.not_due c.next.ensures.old_cursor c.next.ensures.new_cursor
-    (reads_on c.read_due.ensures.keeps Old old s) (reads_on c.read_due.ensures.keeps New new t))) c.put_counted.ensures.counted
+    (c.in_default.ensures.read.within c.pass.invariant.within) c.in_default.ensures.read.not_due c.next.ensures.old_cursor
+    c.next.ensures.new_cursor (reads_on c.read_due.ensures.keeps Old old s) (reads_on c.read_due.ensures.keeps New new t)))
+    c.put_counted.ensures.counted
     c.put_counted.ensures.wrote)
     (record {
       compared = merge_then c.pass.invariant.keeps.compared (merge_then c.read_due.ensures.keeps c.next.ensures.keeps);
@@ -108,13 +111,15 @@ pass-preserved-else-pen g c =
           c.pass.invariant.keeps change c.account_of-account.result step.changes
           (record { compared = c.next.new.self; trusted = c.seek.new.merge }) c.read_due.new.desk c.seek.new.desk c.put_counted.new.counts
           (on_sheet g.W.Sink c.put_counted.new.out c.put_counted.new.pen)
-          (λ old new s t. front_same c.pass.invariant.ready c.pass.invariant.within c.read_due.ensures.keeps c.in_default.ensures.read old new s t ∙ step.gives old new) step.shows
+          (λ old new s t. front_same c.pass.invariant.ready c.pass.invariant.within c.read_due.ensures.keeps
+          c.in_default.ensures.read old new s t ∙ step.gives old new) step.shows
           c.in_default-seek.ensures.sought.same (λ old new trusted_old trusted_new s t. c.account_of-account.ensures trusted_old trusted_new
           ∙ ap (λ m. account_by (same_as change.1 (found_at change.0 (remaining c.seek.new.merge c.seek.new.desk trusted_old trusted_new)))
           (left_by (list_read c.args.terms.now.list) m change))
           (measures_known g.R.Reel.to_come c.read_due.new.self c.next.new.self c.read_due.new.desk old new c.in_default.ensures.read.ready
-          (c.in_default.ensures.read.within c.pass.invariant.within) c.in_default.ensures.read.not_due c.next.ensures.old_cursor c.next.ensures.new_cursor
-          (reads_on c.read_due.ensures.keeps Old old s) (reads_on c.read_due.ensures.keeps New new t))) c.put_counted.ensures.counted
+          (c.in_default.ensures.read.within c.pass.invariant.within) c.in_default.ensures.read.not_due c.next.ensures.old_cursor
+          c.next.ensures.new_cursor (reads_on c.read_due.ensures.keeps Old old s) (reads_on c.read_due.ensures.keeps New new t)))
+          c.put_counted.ensures.counted
           c.put_counted.ensures.wrote;
     }
 
@@ -139,7 +144,8 @@ pass-preserved g c =
       walking = walk_alike g.R.Reel (list_read c.args.terms.now.list) c.args.terms.now.options.now c.args.merges.now c.args.desk.now
           c.args.trusted_desk.now c.pass.invariant.walking
           c.pass.invariant.keeps step.shows.entry step.changes c.next.new.self c.read_due.new.desk
-          (λ old new s t. front_same c.pass.invariant.ready c.pass.invariant.within c.read_due.ensures.keeps c.in_default.ensures.read old new s t ∙ step.gives old new) step.shows.only;
+          (λ old new s t. front_same c.pass.invariant.ready c.pass.invariant.within c.read_due.ensures.keeps
+          c.in_default.ensures.read old new s t ∙ step.gives old new) step.shows.only;
     }
 
 pub put_counted-requires : goal.put_counted-requires
