@@ -126,6 +126,13 @@ class HostsTest(RecipesTest):
         self.assertIn(f'command="{command}"', line[0])
         self.assertIn(command, self.above(self.example("fleet/playbook.yaml")))
 
+    def test_playbook(self) -> None:
+        """If a watched host fails, no play writes the collecting host's files, which name it."""
+        plays = self.above(self.example("fleet/playbook.yaml")).split("\n- name: ")
+        watched = [play for play in plays if "\n  hosts: watched\n" in play]
+        self.assertEqual(len(watched), 1)
+        self.assertIn("\n  any_errors_fatal: true\n", watched[0])
+
     def test_jobs(self) -> None:
         """The line of cron and the service of the timer run the same commands."""
         line = self.example("fleet/aide-compare-fleet").splitlines()[-1]
