@@ -70,7 +70,7 @@ def wanted_of(parts: Parts) -> Dict[bytes, str]:
 class NightsTest(CommandTest):
     def test_nights(self) -> None:
         names = sorted(name[:-4] for name in os.listdir(DIRECTORY) if NIGHT.fullmatch(name))
-        self.assertGreater(len(names), 6, "there are nights")
+        self.assertGreater(len(names), 5, "there are nights")
         for name in names:
             parts = read_night(name)
             for side in ("old", "new"):
