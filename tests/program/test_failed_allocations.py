@@ -9,12 +9,11 @@ refusal answers what the definitions say.
 Two kinds of calls may be refused without an effect, so that the answer is the whole one: those of
 the C library itself, and those of a command line that is not understood. There the parser looks for
 names that are close, which are never printed. The program of lines first asks a parser that knows a
-trusted pair and no --config-check. The sessions are the stored cases, databases and configurations
-that are refused, the examples at each report level, long arguments, paths and configurations, and
-random ones.
+trusted pair and no --config-check. The sessions have long arguments, paths and configurations, which
+reach each allocation of the program, or are random.
 
-The same is done with the program that writes lines of JSON, over the examples at one level, the
-long and the random sessions, and random ones of four databases, of which two are trusted. Another
+The same is done with the program that writes lines of JSON, and with random sessions of four
+databases, of which two are trusted. Another
 program, crates/aide_in_memory, runs sessions over files in memory. Each call that is refused memory
 has to say so, and is made once more. So with one refusal the program has to print what is stored
 beside it; with all later ones refused too it has to end with status 22 behind a front of that.
@@ -35,13 +34,9 @@ from tests.lib.program_test import AnswerTest, new_seed, slow
 from tests.lib.scratch import TOP
 from tests.lib.tally import side_by_side
 from tests.oracle.files import wanted, wanted_lines
-from tests.program import cases, refusal_rows
-from tests.program.configurations import refused as refused_configurations
-from tests.oracle.configuration import LEVELS
 from tests.oracle.session import NO_MEMORY, USAGE, refused
 from tests.lib.preload import PreloadTest, run_with
 from tests.program.random_sessions import Make, make_session, make_session_beside
-from tests.program.real_files.test_examples import folders_of_aide, words_at
 from tests.program.real_files.folder import NEW, OLD, SKIPPING, Folder, names
 
 SESSIONS = 20  # Random ones.
@@ -137,32 +132,6 @@ def try_session(refuser: Refuser, words: list[bytes]) -> dict[str, list[str]]:
     return found
 
 
-def stored_sessions(top: bytes) -> Iterator[Labelled]:
-    for number, path in enumerate(cases.all_cases()):
-        folder = os.path.join(top, b"case-%d" % number)
-        os.mkdir(folder)
-        yield os.path.relpath(path, cases.FOLDER), cases.put(cases.read(path), folder)
-
-
-def refused_sessions(top: bytes) -> Iterator[Labelled]:
-    """Databases and configurations that are refused."""
-    for number, (said, text) in enumerate(refusal_rows.DATABASES):
-        yield said, Folder(os.path.join(top, b"database-%d" % number)).put([text, NEW])
-    for number, (_, said, text) in enumerate(refused_configurations.ALL):
-        folder = Folder(os.path.join(top, b"configuration-%d" % number))
-        folder.write("conf", text)
-        yield said, [b"-D", b"-c", folder.at("conf")]
-
-
-def example_sessions(levels: list[str]) -> Iterator[Labelled]:
-    """What AIDE has written, with every attribute too, at these report levels."""
-    for folder in folders_of_aide():
-        for level in levels:
-            yield "%s at %s" % (os.path.basename(folder), level), words_at(
-                folder, "report_level=" + level
-            )
-
-
 def definitions_of_each_length() -> bytes:
     """A configuration with variables, blocks and groups whose names have each length up to the
     longest."""
@@ -209,13 +178,9 @@ def long_sessions(top: bytes) -> Iterator[Labelled]:
 
 
 def random_sessions(
-    top: bytes,
-    seed: int,
-    count: int,
-    name: bytes = b"random",
-    make: Make = make_session,
+    top: bytes, seed: int, name: bytes = b"random", make: Make = make_session
 ) -> Iterator[Labelled]:
-    for number in range(count):
+    for number in range(SESSIONS):
         folder = os.path.join(top, b"%s-%d" % (name, number))
         os.mkdir(folder)
         yield "seed %d, %s session %d" % (seed, name.decode(), number), make(seed, number, folder)
@@ -230,23 +195,17 @@ def long_sessions_beside(top: bytes) -> Iterator[Labelled]:
     yield "a trusted pair in part", words[:5]
 
 
-def sessions(top: bytes, seed: int, count: int) -> Iterator[Labelled]:
+def sessions(top: bytes, seed: int) -> Iterator[Labelled]:
     """The labels and words of all sessions, with their files below a folder."""
-    yield from stored_sessions(top)
-    yield from refused_sessions(top)
-    yield from example_sessions(LEVELS)
     yield from long_sessions(top)
-    yield from random_sessions(top, seed, count)
+    yield from random_sessions(top, seed)
 
 
-def sessions_of_lines(top: bytes, seed: int, count: int) -> Iterator[Labelled]:
-    """Those for the program of lines, which knows no levels."""
-    os.mkdir(top)
-    yield from example_sessions(LEVELS[-1:])
-    yield from long_sessions(top)
-    yield from random_sessions(top, seed, count)
+def sessions_of_lines(top: bytes, seed: int) -> Iterator[Labelled]:
+    """Those for the program of lines."""
+    yield from sessions(top, seed)
     yield from long_sessions_beside(top)
-    yield from random_sessions(top, seed, count, b"beside", make_session_beside)
+    yield from random_sessions(top, seed, b"beside", make_session_beside)
 
 
 def try_sessions(refuser: Refuser, known: list[Labelled], jobs: int, tally: AnswerTest) -> None:
@@ -313,13 +272,11 @@ class FailedAllocationsTest(PreloadTest):
     source = "fail_allocation.c"
 
     def test_report(self) -> None:
-        known = list(sessions(self.directory, new_seed(), SESSIONS))
+        known = list(sessions(self.directory, new_seed()))
         try_sessions(Refuser(self.program, self.library, wanted), known, 2, self)
 
     def test_lines(self) -> None:
-        known = list(
-            sessions_of_lines(os.path.join(self.directory, b"lines"), new_seed(), SESSIONS)
-        )
+        known = list(sessions_of_lines(self.directory, new_seed()))
         refuser = Refuser(self.lines_program, self.library, wanted_lines, b"--config-check")
         try_sessions(refuser, known, 2, self)
 
