@@ -5,8 +5,8 @@ A library that is loaded before the C library (fail_call.c) makes the n-th call 
 nothing or move half of its bytes, for every n. All later calls work again. So a failure that the
 program ignores, or a call that it makes once more, shows in its answer. The right answer to each
 run is exact: which file could not be opened, in which line of which database reading failed, and
-which bytes had gone out before. The openings of each undisturbed run are compared too. The program
-that writes lines of JSON is tried over a trusted pair too.
+which bytes had gone out before. An undisturbed run closes all that it opens. The program that writes
+lines of JSON is tried over a trusted pair too.
 
 The library is built by a C compiler of the machine or by that of the toolchain; with neither the
 test fails.
@@ -23,7 +23,7 @@ from tests.lib.answer import Answer, difference
 from tests.lib.program_test import AnswerTest, slow
 from tests.lib.tally import side_by_side
 from tests.oracle.files import wanted, wanted_lines
-from tests.oracle.session import BAD_CONFIGURATION, BAD_DATABASE, BAD_DEVICE, USAGE, refused
+from tests.oracle.session import BAD_DATABASE, BAD_DEVICE, refused
 from tests.lib.preload import PreloadTest, run_with
 from tests.program.real_files.folder import FILES, NAMES, NEW, OLD, SKIPPING, Folder, names
 
@@ -59,25 +59,6 @@ class Session(NamedTuple):
 
 # The label of a session, its words and the texts of its files.
 Labelled = Tuple[str, List[bytes], Tuple[bytes, ...]]
-# How often a report opens each side where the words ask for a comparison, and both texts are sound.
-# Lines open it once.
-OPENINGS = {
-    "a report of all parts": 6,
-    "a report of several pages": 3,
-    "columns that are skipped": 2,
-}
-
-
-def openings_of_report(label: str, words: list[bytes], answer: Answer) -> int | None:
-    """How often a report opens each database; None if nothing is known of it."""
-    return OPENINGS.get(label)
-
-
-def openings_of_lines(label: str, words: list[bytes], answer: Answer) -> int | None:
-    """How often lines open each database: once where the words ask for a comparison."""
-    if answer.status == USAGE:
-        return None
-    return int(b"-E" in words and answer.status != BAD_CONFIGURATION)
 
 
 def sessions(folder: bytes) -> Iterator[Labelled]:
@@ -190,14 +171,13 @@ def answer_where(session: Session, kind: int, number: int, way: int) -> Answer:
     return whole._replace(errors=whole.errors[:lost])
 
 
-def openings_of(calls: list[Call]) -> tuple[int, int, int]:
-    """How often a file was opened, how many were open at most at a time, and how many were left
-    open."""
+def open_at_once(calls: list[Call]) -> tuple[int, int]:
+    """How many files were open at most at a time, and how many were left open."""
     at_once, most = 0, 0
     for call in calls:
         at_once += (call.kind == OPEN and call.result >= 0) - (call.kind == CLOSE)
         most = max(most, at_once)
-    return sum(1 for call in calls if call.kind == OPEN), most, at_once
+    return most, at_once
 
 
 class Stumbler(NamedTuple):
@@ -205,9 +185,8 @@ class Stumbler(NamedTuple):
 
     program: bytes
     library: bytes
-    # What is wanted of words, and how often they open each database if that is known.
+    # What is wanted of words.
     wanted: Callable[[list[bytes]], Answer]
-    openings: Callable[[str, list[bytes], Answer], int | None]
 
     def run(
         self, words: list[bytes], kind: int = 0, number: int = 0, way: int = 0
@@ -242,12 +221,8 @@ def try_session(
     """Lets each call of a session go wrong in each way. How many calls of which kind there are."""
     whole, calls = stumbler.run(words)
     tally.check(label, whole, stumbler.wanted(words))
-    openings, most, left = openings_of(calls)
-    sides = len(files) - 1
-    known = stumbler.openings(label, words, whole)
-    is_right = most <= sides and left == 0 and (known is None or openings == 1 + sides * known)
-    counted = "%d, %d at a time, %d left" % (openings, most, left)
-    tally.holds(label + ", openings", is_right, counted)
+    most, left = open_at_once(calls)
+    tally.holds(label + ", open files", most <= len(files) - 1 and left == 0, (most, left))
     session, counts = Session(words, whole, calls, files), Counter(call.kind for call in calls)
     tasks = [
         (kind, number, way)
@@ -274,9 +249,9 @@ class FailedCallsTest(PreloadTest):
     source = "fail_call.c"
 
     def test_report(self) -> None:
-        stumbler = Stumbler(self.program, self.library, wanted, openings_of_report)
+        stumbler = Stumbler(self.program, self.library, wanted)
         try_calls(stumbler, sessions(self.directory), 2, self)
 
     def test_lines(self) -> None:
-        stumbler = Stumbler(self.lines_program, self.library, wanted_lines, openings_of_lines)
+        stumbler = Stumbler(self.lines_program, self.library, wanted_lines)
         try_calls(stumbler, sessions_of_lines(self.directory), 2, self)
