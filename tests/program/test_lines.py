@@ -3,18 +3,14 @@ byte by byte.
 
 Each answer has to be that of tests/oracle/lines.py, and Python's `json` has to read it. The program
 of the report, run with the same words, has to print the same on standard error and to end with the
-same status. With AIDE_PAIRS=DIRECTORY the databases below a directory are compared too, each with
-the next one there.
+same status.
 """
 from __future__ import annotations
 
-import gzip
 import os
-import unittest
 
-from tests.lib.answer import run, shown
+from tests.lib.answer import shown
 from tests.lib.program_test import SESSIONS, new_seed, slow
-from tests.lib.scratch import read
 from tests.oracle.attributes import ATTRIBUTES
 from tests.oracle.database import LINE_LIMIT
 from tests.oracle.files import wanted_lines
@@ -25,8 +21,6 @@ from tests.program.real_files.folder import EMPTY, NEW, OLD, SKIPPING, Folder
 from tests.program.real_files.test_outside import check_file_sizes
 from tests.program.test_configurations import with_all
 
-# The list that is shipped.
-SHIPPED = read("contrib/aide/debian.without").encode()
 # Of names with each byte: alone, behind a letter, and behind the first byte of a character of two,
 # three or four.
 FRONTS = [b"", b"x", b"\xc3", b"\xe2\x80", b"\xf0\x9f\x98"]
@@ -38,12 +32,6 @@ def coded(text: bytes) -> bytes:
 
 def both_jobs(folder: Folder) -> list[tuple[str, list[bytes]]]:
     return [("-E", folder.words()), ("-D", [b"-D", b"-c", folder.at("conf")])]
-
-
-def text_of(path: str) -> bytes:
-    with open(path, "rb") as file:
-        text = file.read()
-    return gzip.decompress(text) if path.endswith(".gz") else text
 
 
 class LinesTest(LinesProgramTest):
@@ -67,12 +55,7 @@ class LinesTest(LinesProgramTest):
                 self.checked(b"report_ignore_%s_attrs=%s" % (kind, each.name.encode()))
 
     def test_paths(self) -> None:
-        """Paths of the databases with each byte, which the line of -D names, and which are missing
-        if they are compared."""
-        for byte in range(1, 256):
-            if byte != ord("\n"):
-                text = b"database_in=file:/none/%c|\ndatabase_new=file:/none/new\n" % byte
-                self.checked(text)
+        """Paths of the databases that are text, need an escape or are no text."""
         with Folder() as folder:
             for name in (
                 b"plain",
@@ -153,18 +136,3 @@ class LinesTest(LinesProgramTest):
 
     def test_random_sessions(self) -> None:
         try_sessions(self.beside, new_seed(), range(SESSIONS), 2, self)
-
-    @unittest.skipUnless(os.environ.get("AIDE_PAIRS"), "only with AIDE_PAIRS=DIRECTORY")
-    def test_pairs(self) -> None:
-        """Each database below a directory, compared with the next one there; and beside a trusted
-        machine that had the same one, and has the one after that."""
-        for folder, _, files in sorted(os.walk(os.environ["AIDE_PAIRS"])):
-            texts = [(name, text_of(os.path.join(folder, name))) for name in sorted(files)]
-            texts = [(name, text) for name, text in texts if b"@@begin_db" in text[:4096]]
-            for at, (name, old) in enumerate(texts):
-                new, trusted = (texts[(at + step) % len(texts)][1] for step in (1, 2))
-                self.compared("%s, %s and the next one" % (folder, name), old, new)
-                with Folder() as made:
-                    words = [*made.put([old, new, old, trusted]), b"--without", SHIPPED]
-                    answer = run(self.lines_program, words)
-                    self.check("beside a trusted pair, " + name, answer, wanted_lines(words))

@@ -2,7 +2,7 @@
 trusted pair beside it, which has no entries if it is not named.
 
 Each answer has to be that of tests/oracle/lines.py, byte by byte: stored cases, each way of naming
-the pair, damages of each of the four, long lines, outputs that fail, and random sessions.
+the pair, faults of each of the four, outputs that fail, and random sessions.
 """
 from __future__ import annotations
 
@@ -13,17 +13,14 @@ import os
 
 from tests.commands.viewers.schema import Validator, schema_of_lines
 from tests.lib.answer import Answer, difference, run, shown
-from tests.lib.program_test import SESSIONS, new_seed, slow
-from tests.lib.tally import side_by_side
-from tests.oracle.database import LINE_LIMIT
+from tests.lib.program_test import SESSIONS, new_seed
 from tests.oracle.files import wanted_lines
 from tests.oracle.lines import LINES_USAGE
 from tests.oracle.session import USAGE_LINE
 from tests.program import cases, line_rows
-from tests.program.damages import WAYS
 from tests.program.random_sessions import make_session_beside, try_sessions
 from tests.program.real_files.test_devices import check_outputs
-from tests.program.real_files.folder import EMPTY, FILES, NAMES, Folder, database
+from tests.program.real_files.folder import EMPTY, NAMES, Folder, database
 from tests.program.lines_program import LinesProgramTest, faults_of_lines
 
 CASES = os.path.join(os.path.dirname(cases.FOLDER), cases.LINES, "*.case")
@@ -103,37 +100,23 @@ class TrustedTest(LinesProgramTest):
             compared = folder.words()
             for label, words, status in (
                 ("a pair", compared + old + new, 7),
-                ("a pair, the new one first", new + old + compared, 7),
                 ("a pair in one word each", compared + [b"=".join(old), b"=".join(new)], 7),
                 ("a pair that is exchanged", compared + [old[0], new[1], new[0], old[1]], 7),
-                ("a pair and texts", compared + [b"-B", b"", *old, b"-A", b"", *new], 7),
-                ("a pair and a last `--`", compared + old + new + [b"--"], 7),
-                ("one database as both", compared + old + [new[0], old[1]], 7),
                 ("a list", compared + old + new + [b"--without", b"/a"], 7),
                 ("an empty list", compared + old + [b"--without", b""] + new, 7),
-                ("a list in one word", [b"--without=/**\n# all\n"] + compared + old + new, 7),
                 ("a list with a fault", compared + old + new + [b"--without", b"a"], 17),
                 ("a list and no pair", compared + [b"--without", b"/a"], 7),
-                ("a pair without names", compared + [old[0], b"", new[0], b""], 7),
                 ("a list and half of a pair", compared + old + [b"--without", b"/a"], 15),
                 ("two lists", compared + old + new + 2 * [b"--without", b"/a"], 15),
-                ("a list without its text", compared + old + new + [b"--without"], 15),
                 ("only the old one", compared + old, 15),
                 ("only the new one", compared + new, 15),
                 ("the old one twice", compared + old + old + new, 15),
-                ("the new one twice", compared + old + new + new, 15),
-                ("a pair without its last path", compared + old + new[:1], 15),
                 ("a path that begins with a hyphen", compared + old + [new[0], b"-x"], 15),
-                ("a pair and another word", compared + old + new + [b"x"], 15),
                 ("a pair beside a check", [b"-D"] + compared[1:] + old + new, 15),
-                ("a pair, a comparison and a check", [b"-D"] + compared + old + new, 15),
                 ("a pair and no job", compared[1:] + old + new, 15),
-                ("a pair and no configuration", [b"-E"] + old + new, 15),
                 ("a shorter name", compared + [b"--trusted", old[1]], 15),
-                ("a letter", compared + old + new + [b"-T", b"x"], 15),
                 ("a pair and --help", compared + old + new + [b"--help"], 15),
                 ("an old one and an empty name", compared + old + [new[0], b""], 15),
-                ("an empty name and a new one", compared + new + [old[0], b""], 15),
                 ("a path that is not there", compared + [old[0], folder.at("none")] + new, 18),
                 ("a folder in place of a database", compared + old + [new[0], folder.path], 18),
             ):
@@ -147,21 +130,6 @@ class TrustedTest(LinesProgramTest):
             words = folder.put(FOUR)
             for each in (words, words[:5], [b"-D"] + words[1:]):
                 self.check("a report beside a pair", run(self.program, each), REFUSED)
-
-    def four(self, four: list[bytes]) -> list[str]:
-        with Folder() as folder:
-            _, faults = self.beside(folder.put(four))
-        return faults + ["the databases were %r" % four] if faults else []
-
-    @slow
-    def test_damages(self) -> None:
-        """Each way to damage each of the four in one step; the others are whole."""
-        for label, way in WAYS:
-            damaged = [
-                FOUR[:at] + [text] + FOUR[at + 1 :] for at in range(4) for text in way(FOUR[at])
-            ]
-            for faults in side_by_side(2, lambda four: self.four(four), damaged):
-                self.add(label, faults)
 
     def test_first_faults(self) -> None:
         """Of several databases with a fault the first one is named."""
@@ -180,19 +148,6 @@ class TrustedTest(LinesProgramTest):
                 self.ends("faults %s, by the definitions" % bin(faulty), words, 24)
                 missing = [None if faulty >> at & 1 else text for at, text in enumerate(four)]
                 self.ends("missing %s" % bin(faulty), folder.put(missing), 18)
-
-    @slow
-    def test_long_lines(self) -> None:
-        """Trusted databases with lines of the greatest length, and one byte longer."""
-        for at in (2, 3):
-            for more, status in ((0, 7), (1, 24)):
-                fields = b" 100644 1 0\n"
-                line = b"/".ljust(LINE_LIMIT + more - len(fields) + 1, b"z") + fields
-                four = list(FOUR)
-                four[at] = four[at].replace(b"@@end_db", line + b"@@end_db")
-                with Folder() as folder:
-                    label = "a line of %d bytes, %s" % (len(line) - 1, FILES[at])
-                    self.ends(label, folder.put(four), status)
 
     def test_outputs(self) -> None:
         with Folder() as folder:
