@@ -1,7 +1,6 @@
-"""Checks each script in Python of this repository: its language, its --help, and that it does
-nothing before it has read its arguments.
+"""Checks each script in Python of this repository: its --help, and that it does nothing before it
+has read its arguments.
 
-- Each file is Python 3.9: the grammar of that version reads it.
 - Each tool that is run prints by `--help` how it is called, as argparse says it, and all of its own
   text, and ends with 0. The repository is the same afterwards.
 - Each tool refuses an option that it does not have, with a status that is not 0, and changes
@@ -14,46 +13,28 @@ from __future__ import annotations
 
 import ast
 import os
+import re
 import subprocess
 import sys
 from collections.abc import Iterator
 
 from tests.lib.answer import Answer, run
-from tests.lib.scratch import TOP, read
+from tests.lib.scratch import TOP
 from tests.lib.tally import Tally
-from tests.source.check_docs import tracked
+from tests.source.check_docs import read_text, tracked
 from tools.lib.arguments import parser_of
 
-OLDEST = (3, 9)
 MAIN = 'if __name__ == "__main__":'
 
 
-def is_python(name: str, text: str) -> bool:
-    return (
-        name.endswith(".py")
-        or text.startswith("#!/usr/bin/python3")
-        or text.startswith("#!/usr/bin/env python3")
-    )
-
-
-def scripts() -> Iterator[tuple[str, str]]:
-    """The files of Python, each with its text."""
+def tools() -> Iterator[tuple[str, str]]:
+    """The files of Python that are run, each with its text."""
     for name in sorted(tracked()):
-        try:
-            text = read(name)
-        except (UnicodeDecodeError, OSError):
-            continue
-        if is_python(name, text):
+        text = read_text(name)
+        is_python = name.endswith(".py") or re.match("#!/usr/bin/(env )?python3", text)
+        is_run = MAIN in text.replace("'", '"')
+        if is_python and is_run and not name.startswith("commands/"):
             yield name, text
-
-
-def faults_of_text(name: str, text: str) -> list[str]:
-    """Where a file is of another language."""
-    try:
-        ast.parse(text, name, feature_version=OLDEST)
-    except SyntaxError as error:
-        return [f"line {error.lineno}: {error.msg}"]
-    return []
 
 
 def tree() -> dict[str, tuple[int, int]]:
@@ -95,13 +76,9 @@ def lacks(name: str, text: str, output: str) -> list[str]:
 def main() -> int:
     parser_of("tests.source.check_tools", __doc__).parse_args()
     tally = Tally()
-    tools = []
-    for name, text in scripts():
-        tally.add(f"{name} is Python 3.9", faults_of_text(name, text))
-        if MAIN in text.replace("'", '"') and not name.startswith("commands/"):
-            tools.append((name, text))
+    found = list(tools())
     before = tree()
-    for name, text in tools:
+    for name, text in found:
         helped = answer_of(name, "--help")
         is_help = helped.status == 0 and helped.output_text.startswith("usage:")
         tally.holds(f"{name} --help", is_help, helped)
@@ -109,7 +86,7 @@ def main() -> int:
         refused = answer_of(name, "--no-such-option")
         tally.holds(f"{name} refuses another option", refused.status not in (0, 1), refused)
     tally.holds("no file is written before the arguments are read", tree() == before)
-    tally.holds("a tool is found", len(tools) > 20, len(tools))
+    tally.holds("a tool is found", len(found) > 15, len(found))
     return tally.status()
 
 
