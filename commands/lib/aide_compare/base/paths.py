@@ -1,5 +1,4 @@
-"""Paths: their keys, by which they are put in order, and patterns, by which rows of a table are
-found.
+"""Paths: their keys, by which they are put in order, and patterns.
 
 A key is a text whose order by bytes is the order of the paths, piece by piece. A slash becomes the
 byte 1, below every other byte of a key. The bytes 0 to 10 become the byte 2 and a printable one, so
@@ -14,10 +13,7 @@ from __future__ import annotations
 import fnmatch
 import re
 from collections.abc import Callable, Iterable, Iterator
-from functools import cached_property, lru_cache
-from itertools import takewhile
-from operator import itemgetter
-from typing import Generic, Protocol, TypeVar
+from functools import cached_property
 
 from aide_compare.base.ending import Fault, Status
 from aide_compare.base.escapes import shown
@@ -27,12 +23,14 @@ _ESCAPE = re.compile(rb"%([0-9A-Fa-f]{2})")
 _UNUSUAL = re.compile(rb"\A0|[^!-~]|%")
 _LOW_BYTE = re.compile(rb"[\x00-\x0a]")
 _RAISED_BYTE = re.compile(rb"\x02(.)", re.S)
-MAX_PATH = 4096  # PATH_MAX of Linux: no path of a file is longer, so no row means a longer one.
 WILD = re.compile(rb"[*?\[\\]")
 # What fnmatch takes otherwise: an escaped byte, and a class, whose first byte may be any, with its
 # sign before that.
 TOKEN = rb"(?s)\\(.?)|\[(?:([!^])|(?![!^]))(.[^]]*)\]|\["
 RANGE = rb"(?s)(.)-(.)"
+
+# Whether a piece of a path is as one of a pattern.
+Test = Callable[[bytes], object]
 
 
 def unescaped(field: bytes) -> bytes:
@@ -83,18 +81,13 @@ def _as_fnmatch(piece: bytes) -> bytes:
     return re.sub(TOKEN, _token, piece)
 
 
-def _test(piece: bytes) -> Callable[[bytes], object]:
+def _test(piece: bytes) -> Test:
     """A test of one piece of a path. What fnmatch makes of it looks for each text between stars
     once, from left to right."""
-    if _is_fixed(piece):
+    if WILD.search(piece) is None:
         return piece.__eq__
     text = _as_fnmatch(piece)
     return re.compile(fnmatch.translate(text.decode("latin-1")).encode("latin-1")).match
-
-
-def _is_fixed(piece: bytes) -> bool:
-    """Whether a piece of a pattern has no wildcard."""
-    return WILD.search(piece) is None
 
 
 def _never(_piece: bytes) -> bool:
@@ -102,8 +95,7 @@ def _never(_piece: bytes) -> bool:
 
 
 class Pattern:
-    """A pattern over whole paths; a ValueError says why a text is none. `fixed` are its first
-    pieces without a wildcard."""
+    """A pattern over whole paths; a ValueError says why a text is none."""
 
     def __init__(self, text: bytes) -> None:
         if not text.startswith(b"/"):
@@ -116,39 +108,38 @@ class Pattern:
                 _as_fnmatch(piece)
         self.text = text
         self.pieces = pieces
-        self.fixed = tuple(takewhile(_is_fixed, pieces))
 
     @cached_property  # Most patterns of a table never test a path.
-    def tests(self) -> list[Callable[[bytes], object] | None]:
+    def tests(self) -> list[Test | None]:
         """The tests of the pieces, None for `**`, and behind the last one that no piece fits."""
         tests = [None if piece == b"**" else _test(piece) for piece in self.pieces]
         return [*tests, _never]
 
-    def matches(self, pieces: list[bytes]) -> bool:
-        """Whether the pattern means the pieces of a path. `**` takes as few as will do, and one
-        more if the rest does not fit."""
-        at = 0
-        position = 0
-        star: int | None = None
-        retry = 0
-        while position < len(pieces):
-            test = self.tests[at]
+    def reached(self, place: int) -> Iterator[int]:
+        """A place in the pattern, and those behind it that a path is at as well: `**` may mean no
+        piece, but at the end."""
+        yield place
+        while place + 1 < len(self.pieces) and self.tests[place] is None:
+            place += 1
+            yield place
+
+    def after(self, places: Iterable[int], piece: bytes) -> tuple[int, ...]:
+        """The places in the pattern where a path may be, one more piece behind some places."""
+        found: set[int] = set()
+        for place in places:
+            test = self.tests[place]
             if test is None:
-                star = at
-                retry = position
-                at += 1
-                if at == len(self.pieces):
-                    return True
-            elif test(pieces[position]):
-                at += 1
-                position += 1
-            elif star is not None:
-                retry += 1
-                at = star + 1
-                position = retry
-            else:
-                return False
-        return at == len(self.pieces)  # What lies below `/a/**` has a piece more than `/a` itself.
+                found.update((place, place + 1))
+            elif test(piece):
+                found.update(self.reached(place + 1))
+        return tuple(found)
+
+    def matches(self, pieces: list[bytes]) -> bool:
+        """Whether the pattern means the pieces of a path."""
+        places = tuple(self.reached(0))
+        for piece in pieces:
+            places = self.after(places, piece)
+        return len(self.pieces) in places
 
 
 def pattern_of(text: bytes, place: str) -> Pattern:
@@ -157,41 +148,3 @@ def pattern_of(text: bytes, place: str) -> Pattern:
         return Pattern(text)
     except ValueError as fault:
         raise Fault(Status.USAGE, f"{place}: {fault}: {shown(text, 200)}")
-
-
-class Row(Protocol):
-    """What a table has rows of."""
-
-    @property
-    def pattern(self) -> Pattern:
-        """Which paths the row is for."""
-
-
-RowType = TypeVar("RowType", bound=Row)
-
-
-class Table(Generic[RowType]):
-    """Rows that each have a `pattern`, found by the pieces that their patterns begin with."""
-
-    def __init__(self, rows: Iterable[RowType]) -> None:
-        self.by_start: dict[tuple[bytes, ...], list[tuple[int, RowType]]] = {}
-        for place, row in enumerate(rows):
-            self.by_start.setdefault(row.pattern.fixed, []).append((place, row))
-        self.longest = max(map(len, self.by_start), default=0)
-
-    @lru_cache(maxsize=1024)
-    def _candidates(self, start: tuple[bytes, ...]) -> list[RowType]:
-        """The rows whose patterns begin as a path does, by its first pieces, in their order."""
-        found = []
-        for size in range(len(start) + 1):
-            found += self.by_start.get(start[:size], [])
-        return [row for _, row in sorted(found, key=itemgetter(0))]
-
-    def rows(self, path: bytes, test: Callable[[RowType], bool] | None = None) -> Iterator[RowType]:
-        """The rows whose pattern means this path, and that the test lets pass, in their order."""
-        if len(path) > MAX_PATH:
-            return
-        pieces = path[1:].split(b"/")
-        for row in self._candidates(tuple(pieces[: self.longest])):
-            if (test is None or test(row)) and row.pattern.matches(pieces):
-                yield row

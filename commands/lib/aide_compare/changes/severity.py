@@ -4,13 +4,14 @@ from __future__ import annotations
 import os
 import stat
 from collections.abc import Callable, Iterator
+from functools import lru_cache
 from typing import NamedTuple
 
 from aide_compare.base.database import RUN_BITS, SET_ID
 from aide_compare.base.ending import Fault, Status
 from aide_compare.base.escapes import shown
 from aide_compare.base.files import lines_of
-from aide_compare.base.paths import Pattern, Table, pattern_of
+from aide_compare.base.paths import Pattern, Test, pattern_of
 from aide_compare.base.words import SEVERITIES
 from aide_compare.lines.rights import ROOT, Rights, Side
 
@@ -24,6 +25,7 @@ SHIPPED = (
 )
 OTHERWISE = "medium"
 RANKS = 1000  # Of each severity.
+MAX_PATH = 4096  # PATH_MAX of Linux: no path of a file is longer, so no row means a longer one.
 # Stands for a program in a directory of which the rights changed.
 PROGRAM = Rights("File", 0o755, ROOT, ROOT, None, None, None, None)
 
@@ -181,6 +183,34 @@ class Row:
         self.pattern = pattern
 
 
+class Inside:
+    """What rows may say of the entries of a directory: each with the places in its pattern where
+    the path of the directory is."""
+
+    def __init__(self, rows: list[tuple[Row, tuple[int, ...]]]) -> None:
+        self.rows = rows
+
+    @lru_cache(maxsize=256)
+    def below(self, piece: bytes) -> Inside:
+        """The same of a directory in this one."""
+        after = ((row, row.pattern.after(places, piece)) for row, places in self.rows)
+        rows = [(row, places) for row, places in after if places]
+        if rows == self.rows:  # As in most directories that are deep.
+            return self
+        return Inside(rows)
+
+    @lru_cache(maxsize=256)
+    def tests(self, held: int) -> list[tuple[Test | None, Weight]]:
+        """The tests of the last piece of a path, None for any, by the rows of which the other tests
+        hold."""
+        return [
+            (row.pattern.tests[place], row.weight)
+            for row, places in self.rows
+            for place in places
+            if not row.tests & ~held and place + 1 == len(row.pattern.pieces)
+        ]
+
+
 class Severity:
     """The table: the first line whose tests hold, and one of whose patterns fits, decides."""
 
@@ -191,7 +221,7 @@ class Severity:
             raise Fault(Status.DEVICE, "severity.conf is missing: install this command again")
         lines = lines_of(path, "the table of severities")
         rows = [self._rows(number, *line) for number, line in enumerate(lines)]
-        self.table = Table([row for each in rows for row in each])
+        self.top = Inside([(row, tuple(row.pattern.reached(0))) for each in rows for row in each])
 
     @staticmethod
     def _rows(number: int, line: bytes, place: str) -> Iterator[Row]:
@@ -226,9 +256,15 @@ class Severity:
         return min(weight, inside, key=lambda each: each.rank)
 
     def _first(self, path: bytes, held: int) -> Weight:
-        def holds(row: Row) -> bool:
-            return not row.tests & ~held
-
-        for row in self.table.rows(path, holds):
-            return row.weight
+        """The weight by the first row that means a path."""
+        if len(path) > MAX_PATH:
+            return OTHER_WEIGHT
+        inside = self.top
+        pieces = path[1:].split(b"/")
+        last = pieces.pop()
+        for piece in pieces:
+            inside = inside.below(piece)
+        for test, weight in inside.tests(held):
+            if test is None or test(last):
+                return weight
         return OTHER_WEIGHT
