@@ -20,8 +20,7 @@ GONE = Package(
 INFO = b"/var/lib/dpkg/info/"
 
 
-def same(path: bytes) -> bytes:
-    return path
+ASKED = {b"/usr/bin/tool\n": b"/usr/bin/tool"}
 
 
 class PackagesTest(ModuleTest):
@@ -41,7 +40,7 @@ class PackagesTest(ModuleTest):
             path = self.path(f"dpkg/{name}")
             os.chmod(path, 0o664)
             with self.subTest(name), self.assertRaisesRegex(Fault, "other users can write"):
-                self.dpkg().members({b"/usr/bin/tool"}, same)
+                self.dpkg().members(ASKED)
             os.chmod(path, 0o644)
         path = self.path("dpkg/info/tool.list")
         for is_link in (True, False):
@@ -50,7 +49,7 @@ class PackagesTest(ModuleTest):
                 os.symlink("gone.list", path)
             else:
                 os.mkfifo(path, 0o600)
-            self.assertRaises(Fault, self.dpkg().members, {b"/usr/bin/tool"}, same)
+            self.assertRaises(Fault, self.dpkg().members, ASKED)
 
     def test_named(self) -> None:
         """A package comes and goes with its list. Beside a trusted pair one that has other digests

@@ -28,6 +28,11 @@ def table(*rows: tuple[bytes, str, bool]) -> Table:
     return changes
 
 
+def merged(path: bytes) -> bytes:
+    """A path where /b is a link to /usr/b."""
+    return path.replace(b"/b", b"/usr/b")
+
+
 class RecordedTest(ModuleTest):
     def test_names(self) -> None:
         for link, target in (("c", b"/a/c"), (b"../../c", b"/c"), ("//c/.", b"/c"), (None, None)):
@@ -35,28 +40,27 @@ class RecordedTest(ModuleTest):
         self.gives(None, target_of, b"/a/b", {})
 
     def test_asked(self) -> None:
-        """At most so many, or so many bytes of them, at once; only those of a content."""
+        """At most so many bytes of them at once; only those of a content."""
         rows = [(b"/%d" % number, "file", True) for number in range(5)]
-        for most, size, counts in (
-            (2, 99, [2, 2, 1]),
-            (9, 3, [2, 2, 1]),
-            (9, 4, [3, 2]),
-            (5, 99, [5]),
-        ):
-            with mock.patch.multiple(recorded, MAX_ASKED=most, MAX_BYTES=size):
+        each = recorded.BESIDE + len(b"/0")
+        for size, counts in ((each, [2, 2, 1]), (2 * each, [3, 2]), (5 * each, [5])):
+            with mock.patch.object(recorded, "MAX_ASKED", size):
                 got = [len(asked) for asked in recorded._asked(table(*rows))]
-            self.expect(f"{most} at once, of {size} bytes", got, counts)
+            self.expect(f"{size} bytes at once", got, counts)
         links = table((b"/a", "file", False), (b"/b", "link", True), (b"/c", "file", True))
         every = {b"/b": 2, b"/c": 3}
         self.expect("those of a content", list(recorded._asked(links)), [every])
-        self.expect("the bounds", (recorded.MAX_ASKED, recorded.MAX_BYTES), (5000, 2 << 20))
+        self.expect("the bound", recorded.MAX_ASKED, 2 << 20)
 
     def test_match(self) -> None:
         """No change is read whose path the records do not have."""
         records, read = mock.Mock(), mock.Mock()
         records.members.return_value = {}
-        Matcher(records, mock.Mock(), read).match(table((b"/a", "file", True)))
-        self.expect("what is asked for", records.members.call_args[0][0], {b"/a"})
+        Matcher(records, merged, read).match(
+            table((b"/a", "file", True), (b"/usr/b", "file", True))
+        )
+        wanted = {b"/a\n": b"/a", b"/usr/b\n": b"/usr/b", b"/b\n": b"/usr/b"}
+        self.expect("what is asked for", records.members.call_args[0][0], wanted)
         read.assert_not_called()
 
     def test_contents(self) -> None:
@@ -64,15 +68,15 @@ class RecordedTest(ModuleTest):
         text = b"x" * 10
         path = self.write("file", text).encode()
         kinds = ("md5", "sha1", "sha256", "sha512")
-        digests = {name: hashlib.new(name, text).digest() for name in kinds}
-        member = Member("p", "md5", hashlib.md5(text).digest())
+        digests = {name: hashlib.new(name, text).hexdigest() for name in kinds}
+        member = Member("p", "md5", digests["md5"])
         weak = {"md5": digests["md5"]}
         strong = {"sha256": digests["sha256"], "sha512": digests["sha512"]}
-        rows: list[tuple[str, dict[str, bytes], Member, int, bool]] = [
+        rows: list[tuple[str, dict[str, str], Member, int, bool]] = [
             ("the same digest", weak, member, 0, True),
-            ("another one", weak, member._replace(digest=b"x" * 16), 11, False),
+            ("another one", weak, member._replace(digest="0" * 32), 11, False),
             ("read", strong, member, 11, True),
-            ("read, another one", strong, member._replace(digest=b"x" * 16), 11, False),
+            ("read, another one", strong, member._replace(digest="0" * 32), 11, False),
             ("no room", strong, member, 10, False),
             ("no digest", {}, member, 11, False),
             ("a weak digest", {"sha1": digests["sha1"]}, member, 11, False),

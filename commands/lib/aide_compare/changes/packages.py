@@ -3,14 +3,15 @@ can write such records, so they silence nothing: they group what people read, an
 or went are named first."""
 from __future__ import annotations
 
+import io
 import os
 import re
 import stat
-from collections.abc import Callable, Iterable, Iterator
-from contextlib import suppress
-from typing import NamedTuple
+from collections.abc import Iterator, Mapping
+from contextlib import contextmanager
+from typing import BinaryIO, NamedTuple
 
-from aide_compare.base.directories import LISTING, closed_after, open_directory
+from aide_compare.base.directories import LISTING, OTHERS_WRITE, closed_after, open_directory
 from aide_compare.base.ending import Fault, Status, failing
 from aide_compare.base.escapes import shown
 from aide_compare.changes.table import Table
@@ -26,7 +27,6 @@ NAME = rb"(?m)^Package:[ \t]*([^ \t\n]+)"
 GONE = (b"not-installed", b"config-files")
 LIST = ".list"
 CONFFILE = rb"(?m)^ ?(/.*?) ([0-9a-f]{32})(?: [a-z-]+)*$"
-SUM = re.compile(rb"([0-9a-f]{32})  ?(.+)")
 INFO_DIRECTORY = b"/var/lib/dpkg/info"
 INFO = rb"/var/lib/dpkg/info/([A-Za-z0-9][A-Za-z0-9+.-]*)(?::[a-z0-9-]+)?\.(list|md5sums)"
 UNSIGNED_PACKAGES = "Unsigned packages"
@@ -40,28 +40,18 @@ class Member(NamedTuple):
 
     package: str
     column: str = ""
-    digest: bytes = b""
+    digest: str = ""  # In base 16.
     link: bytes | None = None
 
 
 # By the paths that are asked for.
 Members = dict[bytes, list[Member]]
-Wanted = set[bytes]
+# The paths that are asked for by the lines of records that name them.
+Asked = Mapping[bytes, bytes]
 # Of a paragraph of dpkg's status.
 Fields = dict[bytes, bytes]
 # The packages that people hear of first, by the title above them.
 NamedPackages = dict[str, list[str]]
-
-
-def named_packages(rows: Iterable[tuple[str, str]]) -> NamedPackages:
-    """Packages by their titles, each once, in the order in which people read them."""
-    titles = (UNSIGNED_PACKAGES, NEW_PACKAGES, REMOVED_PACKAGES)
-    named: dict[str, dict[str, None]] = {title: {} for title in titles}
-    for title, name in rows:
-        named[title][name] = None
-    for name in named[UNSIGNED_PACKAGES]:
-        named[NEW_PACKAGES].pop(name, None)
-    return {title: list(names) for title, names in named.items() if names}
 
 
 def add_member(members: Members, path: bytes, member: Member) -> None:
@@ -85,24 +75,31 @@ class Dpkg:
             self.fd = os.open(".", LISTING, dir_fd=directory.fd)
         # Of each name there may be one for each architecture.
         self.paragraphs: dict[bytes, list[bytes]] = {}
-        for paragraph in b"".join(self._lines("status")).split(b"\n\n"):
-            match = re.search(NAME, paragraph)
-            if match:
-                self.paragraphs.setdefault(match.group(1), []).append(paragraph)
+        with self._open("status") as file:
+            for paragraph in file.read().split(b"\n\n"):
+                match = re.search(NAME, paragraph)
+                if match:
+                    self.paragraphs.setdefault(match.group(1), []).append(paragraph)
 
-    def _lines(self, name: str) -> Iterator[bytes]:
-        """The lines of a file with their ends; none if it is not there."""
+    @contextmanager
+    def _open(self, name: str) -> Iterator[BinaryIO]:
+        """A file of the records, open for reading; an empty one if it is not there."""
         words = f"{self.words}: {shown(name)}"
-        with failing(f"cannot read {words}"), suppress(FileNotFoundError):
-            with open(os.open(name, READ_ONLY, dir_fd=self.fd), "rb") as file:
-                status = os.fstat(file.fileno())
-                is_own = status.st_uid in (0, os.geteuid()) and not status.st_mode & 0o022
+        with failing(f"cannot read {words}"):
+            try:
+                descriptor = os.open(name, READ_ONLY, dir_fd=self.fd)
+            except FileNotFoundError:
+                yield io.BytesIO()
+                return
+            with open(descriptor, "rb") as file:
+                status = os.fstat(descriptor)
+                is_own = status.st_uid in (0, os.geteuid()) and not status.st_mode & OTHERS_WRITE
                 if not stat.S_ISREG(status.st_mode) or not is_own:
                     raise Fault(Status.DEVICE, f"other users can write {words}")
                 if status.st_size > self.remaining:
                     raise Fault(Status.DEVICE, f"{words} has more than {self.remaining} bytes")
                 self.remaining -= status.st_size
-                yield from file
+                yield file
 
     def _package(self, base: bytes) -> Fields | None:
         """What the status says of a package, by its name, or by that with its architecture; None if
@@ -115,33 +112,34 @@ class Dpkg:
                 return fields
         return None
 
-    def members(self, wanted: Wanted, usr: Callable[[bytes], bytes]) -> Members:
-        """What the records say of the wanted paths. A list has a path without /usr if its directory
-        is a link."""
+    def members(self, asked: Asked) -> Members:
+        """What the records say of some paths."""
         self.remaining = MAX_ALL
-        bare = {path[len(b"/usr") :] for path in wanted if path.startswith(b"/usr/")}
-        asked = {path + b"\n" for path in wanted | bare}
         members: Members = {}
         for base in self._bases():
-            listed = {line[:-1] for line in asked.intersection(self._lines(f"info/{base}{LIST}"))}
+            with self._open(f"info/{base}{LIST}") as lines:
+                listed = asked.keys() & lines
             fields = self._package(os.fsencode(base)) if listed else None
             if fields is None:
                 continue
-            package = words_of(fields[b"Package"].strip(), _version_in(fields))
+            package = words_of(fields[b"Package"], fields.get(b"Version", b""))
             digests = self._digests(base, fields, listed)
-            for path in listed:
-                add_member(members, usr(path), Member(package, "md5", digests.get(path, b"")))
+            for line in listed:
+                add_member(members, asked[line], Member(package, "md5", digests.get(line, "")))
         return members
 
-    def _digests(self, base: str, fields: Fields, paths: Wanted) -> dict[bytes, bytes]:
+    def _digests(self, base: str, fields: Fields, listed: set[bytes]) -> dict[bytes, str]:
         """The digests that a package has of some paths, those of configuration files too."""
-        sums = map(SUM.match, self._lines(f"info/{base}.md5sums"))
-        pairs = ((b"/" + match.group(2), match.group(1)) for match in sums if match)
-        digests = {path: digits for path, digits in pairs if path in paths}
+        digests: dict[bytes, str] = {}
+        with self._open(f"info/{base}.md5sums") as lines:
+            for line in lines:
+                digits, _, name = line.partition(b" ")
+                path = b"/" + name.lstrip(b" ")
+                if path in listed:
+                    digests[path] = digits.decode("ascii", "replace")
         for path, digits in re.findall(CONFFILE, fields.get(b"Conffiles", b"")):
-            if path in paths:
-                digests[path] = digits
-        return {path: bytes.fromhex(digits.decode()) for path, digits in digests.items()}
+            digests[path + b"\n"] = digits.decode()
+        return digests
 
     def _bases(self) -> list[str]:
         """The names of packages as those of their lists begin, also of those of which only
@@ -154,8 +152,14 @@ class Dpkg:
 
     def named(self, changes: Table, has_pair: bool) -> NamedPackages:
         """The packages whose list came or went, and, beside a trusted pair, those whose digests are
-        not as in it."""
-        return named_packages(self._named_rows(changes, has_pair))
+        not as in it: each once, by their titles, in the order in which people read them."""
+        titles = (UNSIGNED_PACKAGES, NEW_PACKAGES, REMOVED_PACKAGES)
+        named: dict[str, dict[str, None]] = {title: {} for title in titles}
+        for title, name in self._named_rows(changes, has_pair):
+            named[title][name] = None
+        for name in named[UNSIGNED_PACKAGES]:
+            named[NEW_PACKAGES].pop(name, None)
+        return {title: list(names) for title, names in named.items() if names}
 
     def _named_rows(self, changes: Table, has_pair: bool) -> Iterator[tuple[str, str]]:
         for row in changes.below(INFO_DIRECTORY):
@@ -172,10 +176,6 @@ class Dpkg:
                 yield REMOVED_PACKAGES, shown(name, 100)
 
 
-def _version_in(fields: Fields) -> bytes:
-    return fields.get(b"Version", b"").strip()
-
-
 def words_of(name: bytes, version: bytes) -> str:
     """A package and its version, for people."""
-    return f"{shown(name, 100)} {shown(version, 100)}"
+    return f"{shown(name.strip(), 100)} {shown(version.strip(), 100)}"

@@ -9,7 +9,7 @@ from contextlib import suppress
 from aide_compare.base.ending import Fault
 from aide_compare.base.files import BLOCK, open_regular
 from aide_compare.base.paths import path_of
-from aide_compare.changes.packages import Dpkg, Member, Members
+from aide_compare.changes.packages import Asked, Dpkg, Member, Members
 from aide_compare.changes.rpm import Rpm
 from aide_compare.changes.table import Row, Table
 from aide_compare.lines.attributes import COLUMNS_OF_DIGESTS
@@ -17,25 +17,25 @@ from aide_compare.lines.change import Change, Values
 from aide_compare.lines.readable import exact_bytes
 
 MAX_CONTENT = 2 << 30
-# So many findings, and so many bytes of their paths, are asked for at once.
-MAX_ASKED = 5000
-MAX_BYTES = 1 << 21
+# So many bytes of paths are asked for at once, and so many count for a path beside its own.
+MAX_ASKED = 1 << 21
+BESIDE = 150
 # Two files with one digest of less than 256 bits may be made on purpose: these say what a content
 # is, and every Python computes them.
 STRONG = frozenset(("sha256", "sha512", "sha3_256", "sha3_512"))
 
 # What gives the values of a change by its row.
 Read = Callable[[Row], Change]
-# By columns.
-Digests = dict[str, bytes]
+# In base 16, by columns.
+Digests = dict[str, str]
 # The places of rows by their paths: some thousand are in memory at once.
-Asked = dict[bytes, int]
+Places = dict[bytes, int]
 
 
 def digests_of(values: Values) -> Digests:
     """The digests of a side."""
     return {
-        column: bytes.fromhex(str(values[label]))
+        column: str(values[label])
         for label, column in COLUMNS_OF_DIGESTS.items()
         if label in values
     }
@@ -87,24 +87,35 @@ class Contents:
                     for each in hashes.values():
                         each.update(block)
             if self.remaining:
-                return {column: each.digest() for column, each in hashes.items()}
+                return {column: each.hexdigest() for column, each in hashes.items()}
         return {}
 
 
-def _asked(changes: Table) -> Iterator[Asked]:
+def _asked(changes: Table) -> Iterator[Places]:
     """The changes that may be recorded, some thousand at once."""
-    asked: Asked = {}
+    asked: Places = {}
     size = 0
     question = "select place, path_key from changes where may_be_recorded order by place"
     for place, key in changes.ask(question):
         asked[path_of(key)] = place
-        size += len(key)
-        if len(asked) >= MAX_ASKED or size > MAX_BYTES:
+        size += len(key) + BESIDE
+        if size > MAX_ASKED:
             yield asked
             asked = {}
             size = 0
     if asked:
         yield asked
+
+
+def lines_for(paths: set[bytes], usr: Callable[[bytes], bytes]) -> Asked:
+    """Paths by the lines of records that name them. These have a path without /usr if its directory
+    is a link."""
+    lines = {path + b"\n": path for path in paths}
+    for path in paths:
+        bare = path[len(b"/usr") :]
+        if usr(bare) == path:
+            lines[bare + b"\n"] = path
+    return lines
 
 
 class Matcher:
@@ -123,7 +134,7 @@ class Matcher:
         for asked in _asked(changes):
             self._match(changes, asked)
 
-    def _match(self, changes: Table, asked: Asked) -> None:
+    def _match(self, changes: Table, asked: Places) -> None:
         """Notes those of some changes that are recorded, after the records were asked for them and
         for the targets of links."""
         wanted = set(asked)
@@ -132,7 +143,7 @@ class Matcher:
             target = target_of(row.path, self.read(row).new)
             if target is not None:
                 wanted.add(self.usr(target))
-        self.members = self.records.members(wanted, self.usr)
+        self.members = self.records.members(lines_for(wanted, self.usr))
         for path, place in asked.items():
             if path in self.members:
                 self._note(changes, changes.row(place))

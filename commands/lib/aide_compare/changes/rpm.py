@@ -4,20 +4,12 @@ from __future__ import annotations
 import io
 import os
 import time
-from collections.abc import Callable
 
 from aide_compare.base.ending import Fault, Status, failing
 from aide_compare.base.processes import bounded, run
 from aide_compare.changes import packages
-from aide_compare.changes.packages import (
-    Dpkg,
-    Member,
-    Members,
-    NamedPackages,
-    Wanted,
-    add_member,
-    words_of,
-)
+from aide_compare.changes.packages import Asked, Dpkg, Member, Members, NamedPackages
+from aide_compare.changes.packages import add_member, words_of
 from aide_compare.changes.table import Table
 
 RPM = "/usr/bin/rpm"
@@ -30,14 +22,6 @@ QUERY = (
 ALGORITHMS = {b"1": "md5", b"(none)": "md5", b"2": "sha1", b"8": "sha256", b"10": "sha512"}
 MAX_ALL = 256 << 20
 MAX_SECONDS = 120
-
-
-def digest_in(field: bytes) -> bytes:
-    """The digest in base 16 that rpm says of a file; none if there is none."""
-    try:
-        return bytes.fromhex(field.decode("ascii", "replace"))
-    except ValueError:
-        return b""
 
 
 class Rpm:
@@ -61,9 +45,8 @@ class Rpm:
         if status != 0:
             raise Fault(Status.DEVICE, f"rpm did not say which packages there are: {status}")
 
-    def members(self, wanted: Wanted, usr: Callable[[bytes], bytes]) -> Members:
-        """What rpm says of the wanted paths. Of a file that it did not write itself it says the
-        path."""
+    def members(self, asked: Asked) -> Members:
+        """What rpm says of some paths. Of a file that it did not write itself it says the path."""
         members: Members = {}
         package = ""
         column = ""
@@ -72,12 +55,12 @@ class Rpm:
             if fields[0] == b"P" and len(fields) == 4:
                 package = words_of(fields[1], fields[2])
                 column = ALGORITHMS.get(fields[3], "")
-            elif fields[0] == b"F" and len(fields) == 5 and usr(fields[1]) in wanted:
+            elif fields[0] == b"F" and len(fields) == 5 and fields[1] + b"\n" in asked:
                 member = Member(package)
                 if fields[4] == b"0":  # rpm has written it.
-                    digest = digest_in(fields[2]) if column else b""
+                    digest = fields[2].decode("ascii", "replace") if column else ""
                     member = Member(package, column, digest, fields[3])
-                add_member(members, usr(fields[1]), member)
+                add_member(members, asked[fields[1] + b"\n"], member)
         return members
 
     def named(self, _changes: Table, _has_pair: bool) -> NamedPackages:
