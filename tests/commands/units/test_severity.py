@@ -11,7 +11,7 @@ from tests.commands.units.calls import ModuleTest
 
 from aide_compare.base.words import SEVERITIES
 from aide_compare.changes import severity
-from aide_compare.changes.severity import Severity
+from aide_compare.changes.severity import RANKS, Severity, held_by
 from aide_compare.lines.rights import Rights, Side, owner_of
 
 TYPES = {
@@ -192,15 +192,23 @@ def lacking(old: Side, new: Side) -> Iterator[tuple[str, Side, Side]]:
         yield f"the new {name}", old, side
 
 
+def rank_of(table: Severity, path: bytes, old: Side, new: Side) -> int:
+    return table.rank(path, held_by(old, new))
+
+
+def level_of(table: Severity, path: bytes, old: Side, new: Side) -> str:
+    return SEVERITIES[rank_of(table, path, old, new) // RANKS]
+
+
 class SeverityTest(ModuleTest):
     def test_rights(self) -> None:
         """What is given to whom decides, wherever it is; and each line of such rights is seen by
         itself."""
         table = Severity()
         for label, old, new, wanted in RIGHTS:
-            self.expect(f"severity of {label}", table.of(b"/srv/x", old, new).level, wanted)
+            self.expect(f"severity of {label}", level_of(table, b"/srv/x", old, new), wanted)
             if wanted == "high":
-                found = table.of(b"/usr/share/doc/x", old, new).level
+                found = level_of(table, b"/usr/share/doc/x", old, new)
                 self.expect(f"severity of {label} among texts", found, "high")
 
     def test_unknown(self) -> None:
@@ -209,36 +217,36 @@ class SeverityTest(ModuleTest):
         table = Severity()
         for label, old, new, _ in RIGHTS:
             for path in (b"/srv/x", b"/usr/bin/x", b"/usr/lib/x/x"):
-                level = SEVERITIES.index(table.of(path, old, new).level)
+                level = SEVERITIES.index(level_of(table, path, old, new))
                 for lacked, *sides in lacking(old, new):
-                    found = SEVERITIES.index(table.of(path, *sides).level)
+                    found = SEVERITIES.index(level_of(table, path, *sides))
                     self.holds(f"{label} at {path!r}, without {lacked}", found <= level, found)
 
     def test_directories(self) -> None:
         table = Severity()
         for path, new in DIRECTORIES.items():
-            level = table.of(path, entry(DIRECTORY), new).level
+            level = level_of(table, path, entry(DIRECTORY), new)
             self.expect(f"other rights on {path.decode()}", level, "high")
-        names = table.of(b"/usr/bin", entry(DIRECTORY), entry(DIRECTORY)).level
+        names = level_of(table, b"/usr/bin", entry(DIRECTORY), entry(DIRECTORY))
         self.expect("names in /usr/bin", names, "low")
 
     def test_shipped(self) -> None:
         table = Severity()
         for wanted, paths in SHIPPED.items():
             for path in paths.split():
-                level = table.of(os.fsencode(path), None, entry(FILE)).level
+                level = level_of(table, os.fsencode(path), None, entry(FILE))
                 self.expect(f"a file {path}", level, wanted)
         for program in PROGRAMS:
-            level = table.of(program, None, entry(PROGRAM)).level
+            level = level_of(table, program, None, entry(PROGRAM))
             self.expect(f"a program {program.decode()}", level, "high")
 
     def test_certificates(self) -> None:
         """A certificate of an authority that went gives nobody a right; another one does."""
         table = Severity()
         for path in CERTIFICATES:
-            self.expect("a removed one", table.of(path, entry(FILE), None).level, "low")
-            self.expect("an added one", table.of(path, None, entry(FILE)).level, "high")
-            self.expect("another one", table.of(path, entry(FILE), entry(FILE)).level, "high")
+            self.expect("a removed one", level_of(table, path, entry(FILE), None), "low")
+            self.expect("an added one", level_of(table, path, None, entry(FILE)), "high")
+            self.expect("another one", level_of(table, path, entry(FILE), entry(FILE)), "high")
 
     def test_owners(self) -> None:
         """Nobody but root makes a device, so it is named among root's changes."""
@@ -251,16 +259,16 @@ class SeverityTest(ModuleTest):
         else."""
         table = Severity()
         ranks = [
-            table.of(b"/srv/x", None, entry(FILE, capabilities=SETUID)).rank,
-            table.of(b"/etc/passwd", entry(FILE), entry(FILE)).rank,
-            table.of(b"/etc/group", entry(FILE), entry(FILE)).rank,
-            table.of(b"/etc/cron.d/x", None, entry(FILE)).rank,
-            table.of(b"/usr/bin/x", None, entry(PROGRAM)).rank,
-            table.of(b"/var/log/x", None, entry(PROGRAM)).rank,
-            table.of(b"/etc/alternatives/x", None, entry(0o120777)).rank,
-            table.of(b"/var/lib/dpkg/info/x.postinst", None, entry(PROGRAM)).rank,
-            table.of(b"/srv/x", None, entry(FILE)).rank,
-            table.of(b"/var/log/x", None, entry(FILE)).rank,
+            rank_of(table, b"/srv/x", None, entry(FILE, capabilities=SETUID)),
+            rank_of(table, b"/etc/passwd", entry(FILE), entry(FILE)),
+            rank_of(table, b"/etc/group", entry(FILE), entry(FILE)),
+            rank_of(table, b"/etc/cron.d/x", None, entry(FILE)),
+            rank_of(table, b"/usr/bin/x", None, entry(PROGRAM)),
+            rank_of(table, b"/var/log/x", None, entry(PROGRAM)),
+            rank_of(table, b"/etc/alternatives/x", None, entry(0o120777)),
+            rank_of(table, b"/var/lib/dpkg/info/x.postinst", None, entry(PROGRAM)),
+            rank_of(table, b"/srv/x", None, entry(FILE)),
+            rank_of(table, b"/var/log/x", None, entry(FILE)),
         ]
         self.expect("the order of severities", ranks, sorted(set(ranks)))
 
@@ -268,9 +276,9 @@ class SeverityTest(ModuleTest):
         """Another table, those that are no tables, and a shipped one that is missing."""
         table = Severity(self.write("table", TABLE))
         link = entry(0o120777)
-        self.assertEqual(table.of(b"/opt/a", None, link).level, "low")
-        self.assertEqual(table.of(b"/srv/a", None, link).level, "medium", "in no line")
-        self.assertEqual(table.of(b"/opt/a", None, entry(FILE)).level, "high", "its second line")
+        self.assertEqual(level_of(table, b"/opt/a", None, link), "low")
+        self.assertEqual(level_of(table, b"/srv/a", None, link), "medium", "in no line")
+        self.assertEqual(level_of(table, b"/opt/a", None, entry(FILE)), "high", "its second line")
         for line in (
             b"urgent any /opt/*",
             b"low /opt/*",

@@ -90,10 +90,6 @@ def _test(piece: bytes) -> Test:
     return re.compile(fnmatch.translate(text.decode("latin-1")).encode("latin-1")).match
 
 
-def _never(_piece: bytes) -> bool:
-    return False
-
-
 class Pattern:
     """A pattern over whole paths; a ValueError says why a text is none."""
 
@@ -113,7 +109,7 @@ class Pattern:
     def tests(self) -> list[Test | None]:
         """The tests of the pieces, None for `**`, and behind the last one that no piece fits."""
         tests = [None if piece == b"**" else _test(piece) for piece in self.pieces]
-        return [*tests, _never]
+        return [*tests, frozenset().__contains__]
 
     def reached(self, place: int) -> Iterator[int]:
         """A place in the pattern, and those behind it that a path is at as well: `**` may mean no

@@ -23,8 +23,10 @@ SHIPPED = (
     "../../../share/severity.conf",
     "../../../../../share/aide-compare/severity.conf",
 )
-OTHERWISE = "medium"
-RANKS = 1000  # Of each severity.
+# A rank says how much a change matters, and its place among all others: what has a smaller one is
+# read first. Each severity has so many.
+RANKS = 1000
+OTHER_RANK = SEVERITIES.index("medium") * RANKS
 MAX_PATH = 4096  # PATH_MAX of Linux: no path of a file is longer, so no row means a longer one.
 # Stands for a program in a directory of which the rights changed.
 PROGRAM = Rights("File", 0o755, ROOT, ROOT, None, None, None, None)
@@ -145,13 +147,6 @@ TESTS: dict[str, Callable[[Side, Side], bool]] = {
 }
 
 
-class Weight(NamedTuple):
-    """How much a change matters, and its place among all others: a smaller rank is read first."""
-
-    level: str
-    rank: int
-
-
 class Held(NamedTuple):
     """What the rights of an entry on both sides mean: the bits of the tests that hold, and whether
     somebody has other rights on the programs in it, a directory."""
@@ -170,15 +165,14 @@ def held_by(old: Side, new: Side) -> Held:
 
 # The bit of each test in a number that says which hold.
 BITS = {word: 1 << place for place, word in enumerate(TESTS)}
-OTHER_WEIGHT = Weight(OTHERWISE, SEVERITIES.index(OTHERWISE) * RANKS)
 
 
 class Row:
-    """One pattern of a line: the weight, by the level and the line's place in the table, and the
-    bits of the tests, which all have to hold."""
+    """One pattern of a line: the rank, by the level and the line's place in the table, and the bits
+    of the tests, which all have to hold."""
 
-    def __init__(self, weight: Weight, tests: int, pattern: Pattern) -> None:
-        self.weight = weight
+    def __init__(self, rank: int, tests: int, pattern: Pattern) -> None:
+        self.rank = rank
         self.tests = tests
         self.pattern = pattern
 
@@ -200,11 +194,11 @@ class Inside:
         return Inside(rows)
 
     @lru_cache(maxsize=256)
-    def tests(self, held: int) -> list[tuple[Test | None, Weight]]:
+    def tests(self, held: int) -> list[tuple[Test | None, int]]:
         """The tests of the last piece of a path, None for any, by the rows of which the other tests
         hold."""
         return [
-            (row.pattern.tests[place], row.weight)
+            (row.pattern.tests[place], row.rank)
             for row, places in self.rows
             for place in places
             if not row.tests & ~held and place + 1 == len(row.pattern.pieces)
@@ -236,35 +230,30 @@ class Severity:
                 raise Fault(Status.USAGE, f"{place}: unknown test: {shown(word, 100)}")
         tests = sum(BITS[word] for word in set(words))
         for part in parts[1:]:
-            weight = Weight(level, SEVERITIES.index(level) * RANKS + number)
-            yield Row(weight, tests, pattern_of(part, place))
+            rank = SEVERITIES.index(level) * RANKS + number
+            yield Row(rank, tests, pattern_of(part, place))
 
-    def of(self, path: bytes, old: Side, new: Side) -> Weight:
-        """How much a change of the entry with this path matters."""
-        return self.weight(path, held_by(old, new))
-
-    def weight(self, path: bytes, held: Held) -> Weight:
-        """The same by what the rights mean.
+    def rank(self, path: bytes, held: Held) -> int:
+        """How much a change of the entry with this path matters, by what its rights mean.
 
         Who has other rights on a directory than before has them on the programs in it, so the
         greater of both counts.
         """
-        weight = self._first(path, held.tests)
+        rank = self._first(path, held.tests)
         if not held.opens_programs:
-            return weight
-        inside = self._first(path + b"/*", held_by(PROGRAM, PROGRAM).tests)
-        return min(weight, inside, key=lambda each: each.rank)
+            return rank
+        return min(rank, self._first(path + b"/*", held_by(PROGRAM, PROGRAM).tests))
 
-    def _first(self, path: bytes, held: int) -> Weight:
-        """The weight by the first row that means a path."""
+    def _first(self, path: bytes, held: int) -> int:
+        """The rank by the first row that means a path."""
         if len(path) > MAX_PATH:
-            return OTHER_WEIGHT
+            return OTHER_RANK
         inside = self.top
         pieces = path[1:].split(b"/")
         last = pieces.pop()
         for piece in pieces:
             inside = inside.below(piece)
-        for test, weight in inside.tests(held):
+        for test, rank in inside.tests(held):
             if test is None or test(last):
-                return weight
-        return OTHER_WEIGHT
+                return rank
+        return OTHER_RANK

@@ -7,14 +7,12 @@ import re
 from typing import NamedTuple
 
 from aide_compare.base.database import SET_ID
-from aide_compare.base.words import SEVERITIES
-from aide_compare.changes.severity import Held, Severity, has_same_rights, held_by
+from aide_compare.changes.severity import RANKS, Held, Severity, has_same_rights, held_by
 from aide_compare.lines.change import Fields
 from aide_compare.lines.reader import Outline
 from aide_compare.lines.rights import ROOT, Side, owner_of, rights_of
 
 SLASH = b"\1"  # In a key.
-LEVELS = {severity: level for level, severity in enumerate(SEVERITIES)}
 MAX_NUMBER = (1 << 63) - 1
 UNKNOWN = -1
 FIRST_USER = 1000  # The first number of a user who is no service, as in login.defs(5).
@@ -138,14 +136,14 @@ class Scales:
     def weighed(self, outline: Outline, fields: Fields, line_at: int) -> Weighed:
         """A change by its line, which has this object, and begins there."""
         known = self._known(fields, len(outline.line))
-        weight = self.severity.weight(outline.path, known.held)
+        rank = self.severity.rank(outline.path, known.held)
         return Weighed(
             outline.key,
             directory_of(outline.key),
             outline.kind,
-            LEVELS[weight.level],
+            rank // RANKS,
             known.owners,
-            weight.rank,
+            rank,
             known.party,
             known.form,
             known.has_content and is_content(fields, known.form == "link"),

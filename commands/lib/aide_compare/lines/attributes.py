@@ -2,6 +2,8 @@
 words of people, and digests by their strength."""
 from __future__ import annotations
 
+import re
+
 # In the order of the details. Behind a label is the form of its values.
 _TABLE = """
 Type=type Lname=link Size=number Bcount=number Perm=perm UID=number GID=number Atime=time
@@ -10,18 +12,8 @@ SHA512=digest RMD160=digest TIGER=digest CRC32=digest CRC32B=digest HAVAL=digest
 WHIRLPOOL=digest STRIBOG256=digest STRIBOG512=digest SHA512/256=digest SHA3-256=digest
 SHA3-512=digest ACL=bytes XAttrs=bytes SELinux=bytes E2FSAttrs=bytes Caps=bytes
 """
-
-
-def _forms() -> dict[str, str]:
-    """The form of each label."""
-    forms: dict[str, str] = {}
-    for row in _TABLE.split():
-        label, _, form = row.partition("=")
-        forms[label] = form
-    return forms
-
-
-FORMS = _forms()
+# The form of each label.
+FORMS: dict[str, str] = dict(re.findall("([^ \n]+)=([a-z]+)", _TABLE))
 # What people read in place of a label; of those that are not here, the label itself.
 _WORDS = {
     "Type": "type",
