@@ -37,9 +37,6 @@ class LineRightsTest(CommandTest):
         change = objects[1]
         self.assertLessEqual(RIGHTS, change["old"].keys() & change["new"].keys(), change)
         self.assertEqual(change["severity"], "high", "a set-ID bit")
-        self.assertFalse(
-            RIGHTS & {*change.get("old_text", {}), *change.get("new_text", {})}, change
-        )
         brief = host.brief(self)
         self.assertRegex(
             brief, r"(?m)^Open, severity high:\n  changed  /srv/file: content, size 3 -> 5$"

@@ -15,6 +15,8 @@ from tests.commands.viewers.schema import Validator, schema_of_lines
 from tests.lib.answer import Answer
 from tests.lib.scratch import TOP
 
+from aide_compare.lines.change import change_of
+from aide_compare.lines.readable import texts_of
 from aide_compare.lines.rights import RIGHTS
 
 USAGE, CONFIGURATION, DEVICE = 15, 17, 18
@@ -61,13 +63,21 @@ class OccasionTest(CommandTest):
         levels = [change.pop("severity") for change in given[1:-1]]
         self.assertLessEqual(set(levels), {"high", "medium", "low"})
         self.assertEqual((given[-1].pop("standings")["open"], len(levels)), (7, 7))
-        self.assertIn("_text", json.dumps(given))
         for change in given[1:-1]:
             self.assertEqual(change.pop("standing"), "open")
-            texts = [change.pop(f"{side}_text", {}) for side in ("old", "new")]
-            self.assertFalse({"Atime", "Mtime", "Ctime"} & {*texts[0], *texts[1]}, texts)
         wanted[0].update(old=OLD, new=NEW)
         self.assertEqual(given, wanted)
+
+    def test_bytes(self) -> None:
+        """The members of a line are the program's own bytes, if all of them are ASCII."""
+        pair = self.put_pair("perm", "/a 100644", "/a%0A 100600\n/%C3%A9 100600")
+        proved = self.lines_over(*pair, f"report_force_attrs={'+'.join(RIGHTS)}").splitlines()
+        given = self.call("aide-compare json", *pair).output.splitlines()
+        self.assertEqual(len(given), len(proved))
+        for line, other in zip(given[1:-1], proved[1:-1]):
+            self.assertTrue(line.isascii(), line)
+            self.assertEqual(line.startswith(other[:-1] + b","), other.isascii(), line)
+        self.assertEqual(sum(not line.isascii() for line in proved), 1)
 
     def test_places(self) -> None:
         """Several outputs of one run: each in its file, which is replaced when all is written."""
@@ -141,13 +151,13 @@ class OccasionTest(CommandTest):
         pair = self.put_pair("acl e2fsattrs", *values)
         entry = objects_of(self.call("aide-compare json", *pair))[1]
         self.assertEqual(set(entry["new"]), {"ACL", "E2FSAttrs"})
-        self.assertFalse({"old_text", "new_text"} & set(entry))
+        self.assertEqual(texts_of(change_of(entry)), ({}, {}))
 
     def test_types(self) -> None:
         """A mode has the letter of the type of its side."""
         pair = self.put_pair("perm", "/a 100644\n/b 100644", "/a 41777\n/b 101777")
         entry = objects_of(self.call("aide-compare json", *pair))[1]
-        modes = [entry[side]["Perm"] for side in ("old_text", "new_text")]
+        modes = [texts["Perm"] for texts in texts_of(change_of(entry))]
         self.assertEqual((entry["path"], modes), ("/a", ["-rw-r--r--", "drwxrwxrwt"]))
 
     def test_left_out(self) -> None:
@@ -170,7 +180,7 @@ class OccasionTest(CommandTest):
             self.assertEqual(validator.faults(fields), [])
         read: Fields = {"sha256": "00" * 32, "skipped": []}
         sides = {kind: {side: entry[side]} for kind, side in (("removed", "old"), ("added", "new"))}
-        lone = changed(entry, old=..., new=..., old_text=..., new_text=...)
+        lone = changed(entry, old=..., new=...)
         good: list[object] = [
             changed(summary, old=..., old_hex="2fff"),
             changed(summary, trusted_old="a", trusted_new=..., trusted_new_hex="ff"),
@@ -201,10 +211,9 @@ class OccasionTest(CommandTest):
             changed(summary, trusted_old="/a", trusted_old_hex="2f", trusted_new="/b"),
             changed(summary, skipped={"old": ["fstype"]}),
             changed(entry, **end),
-            changed(entry, old=..., old_text=...),
-            changed(entry, new=..., new_text=...),
+            changed(entry, old=...),
+            changed(entry, new=...),
             changed(entry, kind="removed"),
-            changed(entry, kind="added", old=..., old_text={"Perm": "-rw-------"}),
             changed(lone, kind="added"),
             changed(entry, path=..., path_hex="61"),
             changed(entry, same_as="old"),
@@ -247,7 +256,6 @@ class OccasionTest(CommandTest):
             changed(entry, new={"Perm": "644"}),
             changed(entry, new={"SHA256": "<b>"}),
             changed(entry, new={"ACL_hex": "0"}),
-            changed(entry, new_text={"Perm": 5}),
             changed(entry, more=3),
             changed(end, added="1"),
             changed(end, others=...),

@@ -61,8 +61,11 @@ class TableTest(ModuleTest):
     def test_values(self) -> None:
         """Any bytes of a path come back, and a number of an owner that is no number of SQLite."""
         for path in (b"/", b"/a", b"/a\0b", b"/a\n\xff/b", b"/a//b"):
-            (row,) = table_of(change(path, owner=1 << 70)).rows()
-            self.expect("the path", (row.path, row.party), (path, (1 << 63) - 1))
+            table = table_of(change(path, owner=1 << 70))
+            (row,) = table.rows()
+            self.expect("the path", row.path, path)
+            (party,) = table.ask("select party from changes")
+            self.expect("the number", party, ((1 << 63) - 1,))
         for path, directory in ((b"/", b""), (b"/a", b"/"), (b"/a/b", b"/a")):
             self.gives(key_of_path(directory), directory_of, key_of_path(path))
 

@@ -137,8 +137,7 @@ class TextsTest(ModuleTest):
         """In a line without room the size of a new entry goes before its mode."""
         values: Values = {"Perm": "4755", "UID": 0, "GID": 0, "Size": 151344, "Ctime": 1795602777}
         change = change_between(None, values)
-        place = (0, key_of_path(b"/a"), b"", "added", 0, 0, 0, None, "file", False, 0, 0, 1)
-        row = Row(*place, "open", "", True)
+        row = Row(0, key_of_path(b"/a"), b"", "added", 0, 0, 0, "open", "")
         mode = "added    /a: -rwsr-xr-x root:root"
         sized = f"{mode} 151344 bytes"
         dated = f"{sized}, 2026-11-25 10:32 UTC"

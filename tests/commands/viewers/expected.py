@@ -1,5 +1,5 @@
 """What aide-compare json has to say, computed from two databases: the proved lines, to which only
-texts and standings are added."""
+standings are added."""
 from __future__ import annotations
 
 import json
@@ -7,7 +7,7 @@ from typing import Any
 
 from tests.oracle.lines import lines_of
 
-ADDED = {"old_text", "new_text", "standing", "severity", "package", "standings"}
+ADDED = {"standing", "severity", "package", "standings"}
 
 
 def faults_of(objects: list[dict[str, Any]], *databases: Any) -> list[str]:

@@ -10,10 +10,9 @@ from typing import Any
 from tests.lib.programs import lines_program_of
 
 from aide_compare.base.ending import Fault, Status
-from aide_compare.base.escapes import guarded
 from aide_compare.base.words import SEVERITIES
+from aide_compare.changes.table import Marks
 from aide_compare.compare.work import failed_comparison
-from aide_compare.lines.change import change_of
 from aide_compare.lines.reader import Reader
 from aide_compare.show.json_lines import added_lines
 from aide_compare.show.page import MAX_PAGE, Rows, page
@@ -53,10 +52,8 @@ def page_over(objects: list[Fields], limit: int = MAX_PAGE) -> bytes:
     """The page of the objects of lines, with the standings that they say."""
     rows = Rows()
     for fields in sorted(changes_of(objects), key=order_of):
-        marks = {
-            name: fields[name] for name in ("standing", "severity", "package") if name in fields
-        }
-        rows.add(change_of(fields), {name: guarded(mark) for name, mark in marks.items()})
+        marks = (fields.get(name, "") for name in Marks._fields)
+        rows.add(lines_of([fields]), Marks(*marks))
     database = {"side": "Old database", "name": "/a", "time": "", "sha256": "00"}
     heading: Fields = {"title": "File changes", "outcome": "", "databases": [database]}
     heading.update(counts=[["open", 1]], remarks=[], facts=[], lists=[])

@@ -1,5 +1,5 @@
-"""The texts for people in the lines of aide-compare json: computed in another way, and a table of
-what real tools printed."""
+"""The texts for people in place of values: computed in another way, and a table of what real tools
+printed."""
 from __future__ import annotations
 
 import contextlib
@@ -12,8 +12,8 @@ from typing import Any
 
 from tests.commands.viewers.expected import without_same_rights
 
-from aide_compare.lines.change import Value
-from aide_compare.lines.readable import decoded
+from aide_compare.lines.change import Value, change_of
+from aide_compare.lines.readable import decoded, texts_of
 
 TYPES = {
     "File": stat.S_IFREG,
@@ -171,16 +171,16 @@ def is_hidden(letter: str) -> bool:
 
 
 def text_faults(objects: list[dict[str, Any]]) -> list[str]:
-    """What is wrong with the texts of the objects of changes."""
+    """What is wrong with the texts of the changes of these objects."""
     return [fault for entry in objects if "kind" in entry for fault in faults_of_entry(entry)]
 
 
 def faults_of_entry(entry: dict[str, Any]) -> list[str]:
     faults = []
+    texts = texts_of(change_of(entry))
     entry = without_same_rights(entry)
     kind = entry.get("type") if entry.get("summary", "!")[0] != "!" else None
     sides = [entry.get(side, {}) for side in ("old", "new")]
-    texts = [entry.get(side + "_text", {}) for side in ("old", "new")]
     for values, given in zip(sides, texts):
         for name, value in values.items():
             label = name[:-4] if name.endswith("_hex") else name

@@ -4,6 +4,7 @@ from __future__ import annotations
 
 from collections import Counter
 from collections.abc import Iterable, Iterator
+from functools import lru_cache
 from itertools import islice
 from typing import NamedTuple
 
@@ -13,6 +14,7 @@ from aide_compare.base.rows import Rows
 from aide_compare.base.words import SEVERITIES, status_of_counts
 from aide_compare.changes.weighing import Weighed
 from aide_compare.lines.change import Counts
+from aide_compare.lines.reader import embedded
 
 # A table of more rows is refused.
 MAX_ROWS = 1000000
@@ -36,25 +38,32 @@ RECORDED = "standing = 'recorded'"
 BY_STANDING = f"standing, count(*) over (partition by package) desc, package, {ORDER}"
 
 
+class Marks(NamedTuple):
+    """What the commands say of a change beside its line."""
+
+    standing: str
+    severity: str = ""
+    package: str = ""  # Its name and version, of a recorded change.
+
+    @lru_cache(maxsize=1024)
+    def members(self) -> bytes:
+        """What is known of them, as the end of an object that has other members before."""
+        known = {name: value for name, value in self._asdict().items() if value}
+        return embedded(known).replace(b"{", b",", 1)
+
+
 class Row(NamedTuple):
-    """A change that is not silent."""
+    """What people read of a change that is not silent."""
 
     place: int  # In the order of paths.
     path_key: bytes
     site: bytes  # The key of its directory; the number of a host, of the changes of many.
     kind: str
     level: int  # The place of its severity in SEVERITIES.
-    owners: int  # The group of its owner.
-    rank: int  # Within its severity: a smaller one is read first.
-    party: int | None  # The user who may have many changes; None for root.
-    form: str  # "file", "link" or "".
-    may_be_recorded: bool
     line_at: int  # Where its line begins.
     line_size: int
-    hosts: int  # How many hosts have it, of many.
     standing: str
     package: str  # Its name and version, of a recorded change.
-    is_listed: bool
 
     @property
     def path(self) -> bytes:
@@ -65,12 +74,11 @@ class Row(NamedTuple):
         return SEVERITIES[self.level]
 
     @property
-    def marks(self) -> dict[str, str]:
-        """What the commands say of it, in a line and on a page."""
-        marks = {"standing": self.standing, "severity": self.severity}
-        if self.package:
-            marks["package"] = self.package
-        return marks
+    def marks(self) -> Marks:
+        return Marks(self.standing, self.severity, self.package)
+
+
+COLUMNS = ", ".join(Row._fields)
 
 
 class Table(Rows):
@@ -78,25 +86,20 @@ class Table(Rows):
 
     def __init__(self) -> None:
         super().__init__(SCHEMA)
-        self.size = 0
 
     def __len__(self) -> int:
-        return self.size
+        return int(next(self.ask("select count(*) from changes"))[0])
 
     def add(self, changes: Iterable[Weighed]) -> None:
         """Takes changes in the order of paths; a Fault if they are too many."""
         self.do_all(INSERT, islice(changes, MAX_ROWS + 1))
-        self.count_rows()
-        if self.size > MAX_ROWS:
+        if len(self) > MAX_ROWS:
             text = f"there are more than {MAX_ROWS} changes that are not silent"
             raise Fault(Status.DEVICE, text)
 
-    def count_rows(self) -> None:
-        (self.size,) = next(self.ask("select count(*) from changes"))
-
     def rows(self, condition: str = "true", *values: object, order: str = ORDER) -> Iterator[Row]:
         """Yields rows in an order, the one in which people read them if no other is given."""
-        question = f"select * from changes where {condition} order by {order}"
+        question = f"select {COLUMNS} from changes where {condition} order by {order}"
         return map(Row._make, self.ask(question, *values))
 
     def row(self, place: int) -> Row:

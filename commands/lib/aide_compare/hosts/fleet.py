@@ -103,7 +103,6 @@ class Fleet:
         """Makes one of the changes that are the same, when all were taken."""
         self.table.do(LOADS)
         self.table.do(GATHER)
-        self.table.count_rows()
 
     def shared(self, row: Row, max_names: int) -> SharedChange:
         """A change on some hosts, of which at most so many are named. Values that are of one host

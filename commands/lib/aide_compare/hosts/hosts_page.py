@@ -18,8 +18,9 @@ from aide_compare.hosts.hosts_text import (
 )
 from aide_compare.hosts.report_values import SharedChange
 from aide_compare.lines.change import Fields
+from aide_compare.lines.reader import embedded
 from aide_compare.show.digest import digest
-from aide_compare.show.page import BESIDE, MAX_PAGE, embedded, page as whole_page, row_of
+from aide_compare.show.page import BESIDE, MAX_PAGE, page as whole_page, row_of
 from aide_compare.show.page import size_beside
 
 MAX_LIST = 1500000  # Of each list of hosts.

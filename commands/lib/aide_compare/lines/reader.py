@@ -43,6 +43,11 @@ COUNTED = {
 }
 
 
+def embedded(fields: object) -> bytes:
+    """JSON as it stands in an element of a page, too: no text in it ends that element."""
+    return ENCODE(fields).replace("<", "\\u003c").encode()
+
+
 class Refused(Fault):
     """What is wrong with a line, so that the whole is no stream of lines."""
 

@@ -78,10 +78,10 @@ def changes_with_values(
     for line, marks in marked_lines(all_lines(comparison), judged):
         change = change_of(json.loads(line))
         if pattern.matches(change.path[1:].split(b"/")):
-            lines = [f"{marks['standing']} {marks.get('severity', '')}".rstrip() + " "]
+            lines = [f"{marks.standing} {marks.severity}".rstrip() + " "]
             lines += change_lines(change)
-            if "package" in marks:
-                lines.append(f"    package    {guarded(marks['package'])}\n")
+            if marks.package:
+                lines.append(f"    package    {guarded(marks.package)}\n")
             yield "".join(lines).encode("utf-8", "backslashreplace")
             is_there = True
     if not is_there:

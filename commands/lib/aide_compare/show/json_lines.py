@@ -1,5 +1,5 @@
-"""The lines of aide-compare json: those of aide_lines, each with what the commands add: its
-standing, and texts for people."""
+"""The lines of aide-compare json: those of aide_lines, each with what the commands add, such as its
+standing."""
 from __future__ import annotations
 
 import json
@@ -8,8 +8,8 @@ from collections.abc import Iterator
 from typing import TYPE_CHECKING
 
 from aide_compare.base.words import SIDES, TRUSTED_SIDES
-from aide_compare.lines.change import Fields, Standing, change_of
-from aide_compare.lines.readable import texts_of
+from aide_compare.changes.table import Marks
+from aide_compare.lines.change import Fields, Standing
 from aide_compare.lines.reader import ENCODE, HEX, Reader
 
 if TYPE_CHECKING:
@@ -44,24 +44,17 @@ def end_of(reader: Reader, comparison: Comparison, judged: Judged | None) -> Fie
     return end
 
 
-def marked_lines(reader: Reader, judged: Judged | None) -> Iterator[tuple[bytes, Fields]]:
+def marked_lines(reader: Reader, judged: Judged | None) -> Iterator[tuple[bytes, Marks]]:
     """The lines of a Reader, each with the standing of its change, and with what is known of it if
     the changes were judged."""
     told = judged.table.rows(order="place") if judged else None
     for outline in reader.outlines():
         if outline.silent:
-            yield outline.line, {"standing": outline.silent.value}
+            yield outline.line, Marks(outline.silent.value)
         elif told:
             yield outline.line, next(told).marks
         else:
-            yield outline.line, {"standing": Standing.OPEN.value}
-
-
-def text_members(fields: Fields) -> Fields:
-    """The texts of a change for people as members, but for those of times."""
-    texts = texts_of(change_of(fields))
-    sides = zip(SIDES, texts)
-    return {f"{side}_text": side_texts for side, side_texts in sides if side_texts}
+            yield outline.line, Marks(Standing.OPEN.value)
 
 
 def line_of(fields: Fields) -> bytes:
@@ -69,10 +62,17 @@ def line_of(fields: Fields) -> bytes:
     return ENCODE(fields).encode() + b"\n"
 
 
+def marked_line(line: bytes, marks: Marks) -> bytes:
+    """A line of aide_lines with further members. Its own bytes stay, but no letter that a terminal
+    could write in another direction."""
+    if not line.isascii():
+        line = line_of(json.loads(line))
+    return line[: -len(b"}\n")] + marks.members() + b"\n"
+
+
 def added_lines(reader: Reader, comparison: Comparison, judged: Judged | None) -> Iterator[bytes]:
     """Yields the lines of a comparison with what is added."""
     yield line_of(summary_of(reader.summary, comparison))
     for line, marks in marked_lines(reader, judged):
-        fields = json.loads(line)
-        yield line_of({**fields, **text_members(fields), **marks})
+        yield marked_line(line, marks)
     yield line_of(end_of(reader, comparison, judged))

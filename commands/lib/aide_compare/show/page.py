@@ -8,6 +8,7 @@ import hashlib
 import json
 import os
 from collections.abc import Callable, Iterable, Iterator
+from functools import lru_cache
 from html import escape
 from typing import TYPE_CHECKING
 
@@ -15,7 +16,8 @@ from aide_compare.base.escapes import guarded, shown
 from aide_compare.base.files import private_file
 from aide_compare.base.words import KINDS, SEVERITIES, SIDES, minute_of
 from aide_compare.lines.attributes import CONTENT, FORMS, STRENGTH, word_of
-from aide_compare.changes.table import BY_STANDING
+from aide_compare.changes.table import BY_STANDING, Marks
+from aide_compare.changes.weighing import DECODE
 from aide_compare.lines.change import (
     Change,
     Counts,
@@ -24,10 +26,12 @@ from aide_compare.lines.change import (
     Texts,
     Value,
     Values,
+    bytes_of,
     change_of,
 )
 from aide_compare.lines.readable import texts_of
-from aide_compare.lines.reader import ENCODE, Reader
+from aide_compare.lines.reader import HEX, Reader, embedded
+from aide_compare.lines.rights import differing
 from aide_compare.show.json_lines import marked_lines
 from aide_compare.show.brief import brief_of
 
@@ -79,11 +83,6 @@ def digest_of(text: str) -> str:
     return base64.b64encode(hashlib.sha256(text.encode()).digest()).decode()
 
 
-def embedded(fields: object) -> bytes:
-    """JSON as it stands in an element of a page: no text in it ends that element."""
-    return ENCODE(fields).replace("<", "\\u003c").encode()
-
-
 def page(
     title: str, digest: str, rows: Iterable[bytes], heading: Callable[[], Fields]
 ) -> Iterator[bytes]:
@@ -132,15 +131,31 @@ def values_of(values: Values, texts: Texts) -> Fields:
     return fields
 
 
-def row_of(change: Change, marks: Fields) -> list[Fields]:
-    """The row of a change: what is always there, which is its place, the names of its values and
-    some marks; and its values."""
-    names = {*change.old, *change.new}
-    labels = " ".join(label for label in FORMS if label in names)
-    head = {"kind": change.kind, "path": shown(change.path), "labels": labels, **marks}
+@lru_cache(maxsize=1024)
+def labels_of(letters: str, old: tuple[str, ...], new: tuple[str, ...]) -> str:
+    """The attributes that people read of a change, by the members that its sides have."""
+    sides = {"old": dict.fromkeys(old), "new": dict.fromkeys(new)}
+    fields = differing({"kind": "changed", "summary": letters, **sides})
+    names = {name.removesuffix(HEX) for side in SIDES for name in fields[side]}
+    return " ".join(label for label in FORMS if label in names)
+
+
+def head_of(kind: str, path: bytes, labels: str) -> Fields:
+    """What is always there of a change: its place, and the names of its values."""
+    return {"kind": kind, "path": shown(path), "labels": labels}
+
+
+def both_values(change: Change) -> Fields:
+    """The values of both sides of a change."""
     texts = texts_of(change)
-    values = {"old": values_of(change.old, texts.old), "new": values_of(change.new, texts.new)}
-    return [head, values]
+    return {"old": values_of(change.old, texts.old), "new": values_of(change.new, texts.new)}
+
+
+def row_of(change: Change, marks: Fields) -> list[Fields]:
+    """The row of a change: what is always there with some marks, and its values."""
+    labels = labels_of("", tuple(change.old), tuple(change.new))
+    head = {**head_of(change.kind, change.path, labels), **marks}
+    return [head, both_values(change)]
 
 
 class Rows:
@@ -148,16 +163,20 @@ class Rows:
     heads."""
 
     def __init__(self) -> None:
-        self.file = private_file()
+        self.file = private_file()  # Of each change a line with its head, and then its own line.
         self.size = 0  # Of all heads.
         self.count = 0
         self.listed = 0
         self.valued = 0
 
-    def add(self, change: Change, marks: Fields) -> None:
-        head, values = map(embedded, row_of(change, marks))
-        self.file.write(b"%s\t%s\n" % (head, values))
-        self.size += len(head) + BESIDE
+    def add(self, line: bytes, marks: Marks) -> None:
+        fields = DECODE(line.decode())
+        members = (tuple(fields.get(side, ())) for side in SIDES)
+        labels = labels_of(fields["summary"], *members)
+        head = head_of(fields["kind"], bytes_of(fields, "path"), labels)
+        row = embedded(head)[: -len(b"}")] + marks.members()
+        self.file.write(row + b"\n" + line)
+        self.size += len(row) + BESIDE
         self.count += 1
 
     def chosen(self, room: int) -> Iterator[bytes]:
@@ -166,18 +185,19 @@ class Rows:
         for_values = max(room - self.size, room // 8)
         for_heads = room - for_values
         self.file.seek(0)
-        for line in self.file:
-            head, _, values = line[:-1].partition(b"\t")
-            for_heads -= len(head) + BESIDE
+        for head, line in zip(self.file, self.file):
+            row = head[:-1]
+            for_heads -= len(row) + BESIDE
             if for_heads < 0:
                 return
-            for_values -= len(values)
             self.listed += 1
             if for_values >= 0:
-                self.valued += 1
-                yield b"[%s,%s]" % (head, values)
-            else:
-                yield b"[%s]" % head
+                values = embedded(both_values(change_of(json.loads(line))))
+                for_values -= len(values)
+                if for_values >= 0:
+                    self.valued += 1
+                    row += b"," + values
+            yield b"[%s]" % row
 
     def remarks(self) -> list[str]:
         """What is missing."""
@@ -192,14 +212,15 @@ class Rows:
         return remarks
 
 
-def changes_in_order(judged: Judged | None, reader: Reader) -> Iterator[tuple[Change, Fields]]:
-    """All changes with their marks, those that are read first before the others."""
+def lines_in_order(judged: Judged | None, reader: Reader) -> Iterator[tuple[bytes, Marks]]:
+    """The lines of all changes with their marks, those that are read first before the others."""
     if judged is not None:
         for row in judged.table.rows(order=BY_STANDING):
-            yield judged.read(row), row.marks
-    for line, marks in marked_lines(reader, None):
-        if judged is None or marks["standing"] != Standing.OPEN.value:
-            yield change_of(json.loads(line)), marks
+            yield judged.line(row), row.marks
+    if judged is None or judged.counts.silent:
+        for line, marks in marked_lines(reader, None):
+            if judged is None or marks.standing != Standing.OPEN.value:
+                yield line, marks
 
 
 def heading_of(comparison: Comparison, rows: Rows, title: str) -> Fields:
@@ -236,8 +257,8 @@ def page_of(
 ) -> Iterator[bytes]:
     """The page of a comparison, whose lines a Reader has."""
     rows = Rows()
-    for change, marks in changes_in_order(judged, reader):
-        rows.add(change, marks)
+    for line, marks in lines_in_order(judged, reader):
+        rows.add(line, marks)
     title = shown(f"File changes on {os.uname().nodename}")
     digest = brief_of(judged).decode() or "No differences\n"
 
