@@ -4,20 +4,15 @@ from __future__ import annotations
 
 import json
 import os
-import re
 import time
 import unittest
-from typing import Any, Dict, List, Set, Tuple
+from typing import Dict
 
-from tests.commands.made_up import Host, Package, acl_of, time_of
+from tests.commands.made_up import Host, Package, time_of
 from tests.commands.sandbox import CommandTest
 from tests.commands.viewers.browser import CHROMIUM, Browser
-from tests.commands.viewers.hostile import NAMES
-from tests.commands.viewers.pages import KINDS
 from tests.lib.program_test import slow
 
-# The names in the path of a directory.
-Folder = Tuple[str, ...]
 FIRST, SECOND = 1767225600, 1795500000
 FOLDERS = {
     b"/usr/bin": "openssl",
@@ -47,8 +42,6 @@ UNFOLD = """for (let folds; (folds = [...document.querySelectorAll(
   '[aria-expanded="false"] > .folder > .fold')]).length;) folds.forEach((fold) => fold.click());"""
 LABELS = """[...document.querySelectorAll('#tree [role=treeitem]')].map(
   (one) => one.getAttribute('aria-label'))"""
-LISTED = f"""[...document.querySelectorAll('{ENTRY}')].map(
-  (one) => ['b', 'code'].map((tag) => one.querySelector(tag).textContent))"""
 CUT_OFF = """[...document.querySelectorAll('body, nav, .numbers')].filter(
   (one) => one.scrollWidth > one.clientWidth).length"""
 ORDER = """{ const order = document.getElementById('order'); order.value = 'size';
@@ -106,48 +99,6 @@ def upgrade() -> Host:
     return host
 
 
-def hostile() -> Host:
-    """Entries with names that could be taken for markup."""
-    host = Host()
-    for number, name in enumerate(NAMES):
-        for side, night in enumerate((host.old, host.new)):
-            night.link(b"/%s/x" % name, name + b"%d" % side, acl=acl_of(name))
-            if number % 3:
-                night.file(b"/" + name, b"x" * (number + side))
-    return host
-
-
-def wanted_folders(entries: List[Tuple[int, str]]) -> List[List[Any]]:
-    """The directories of entries in the order of paths, each with the counts of what is in and
-    below it, and of itself.
-
-    A directory that has nothing but one directory in it is shown with that one.
-    """
-    counts: Dict[Folder, List[int]] = {}
-    own: Set[Folder] = set()
-    below: Dict[Folder, List[Folder]] = {}
-    for kind, path in entries:
-        names = path.split("/")
-        for end in range(2, len(names)):
-            counts.setdefault(tuple(names[1:end]), [0, 0, 0])[kind] += 1
-    for kind, path in entries:
-        pieces = tuple(path.split("/")[1:])
-        if pieces in counts:
-            counts[pieces][kind] += 1
-        own.add(pieces if pieces in counts else pieces[:-1])
-    for folder in counts:
-        below.setdefault(folder[:-1], []).append(folder)
-    parts: Dict[Folder, str] = {}
-    wanted: List[List[Any]] = []
-    for folder in sorted(counts):
-        name = parts.get(folder[:-1], "") + folder[-1]
-        if folder not in own and len(below.get(folder, ())) == 1:
-            parts[folder] = name + "/"
-        else:
-            wanted.append([name + "/", *filter(None, counts[folder])])
-    return wanted
-
-
 @slow
 @unittest.skipUnless(CHROMIUM, "not installed: chromium")
 class BrowserTest(CommandTest):
@@ -197,19 +148,18 @@ class BrowserTest(CommandTest):
         return int(self.browser.value(FOUND).split()[0])
 
     def test_folders(self) -> None:
-        """The tree has all directories of the entries, each with its counts."""
-        for host in (upgrade(), hostile()):
-            self.open(self.page(host), "#order=path")
-            self.browser.value(UNFOLD)
-            self.send("beforeprint")
-            listed = self.browser.value(LISTED)
-            entries = [(KINDS.index(words.split()[0]), name) for words, name in listed]
-            given = [
-                [label.split(", ")[0], *map(int, re.findall(r", ([0-9]+) ", label))]
-                for label in self.browser.value(LABELS)
-            ]
-            self.assertGreater(len(given), 3)
-            self.assertEqual(sorted(given), sorted(wanted_folders(entries)))
+        """The tree has all directories of the entries, each with its counts. One that has nothing
+        but one directory in it is shown with that one."""
+        host = Host()
+        for path in (b"/etc/one", b"/etc/cron.d/one", b"/usr/lib/x/one", b"/usr/lib/x/two"):
+            host.new.file(path)
+        host.new.directory(b"/usr/share")
+        host.old.file(b"/usr/share/doc/gone")
+        self.open(self.page(host), "#order=path")
+        self.browser.value(UNFOLD)
+        wanted = ["etc/, 2 added", "cron.d/, 1 added", "usr/, 3 added, 1 removed"]
+        wanted += ["lib/x/, 2 added", "share/, 1 added, 1 removed", "doc/, 1 removed"]
+        self.shows(LABELS, wanted)
 
     def test_filters(self) -> None:
         self.open(self.page(upgrade()))
@@ -330,18 +280,6 @@ class BrowserTest(CommandTest):
         self.browser.ask("Emulation.setEmulatedMedia", media="", features=[])
         self.send("afterprint")
         self.shows(SHOWN, 100)
-
-    def test_hostile(self) -> None:
-        self.open(self.page(hostile()))
-        total = self.total()
-        self.assertGreater(total, 50)
-        self.shows(SHOWN, min(total, 100))
-        self.click("#unfold")
-        self.shows(number_of("#list li > details[open] > table") + " > 50", True)
-        for selector in ("img", "script ~ script", "body script", "#tree b", "iframe"):
-            self.shows(number_of(selector), 0)
-        turned = r"/[\u202a-\u202e\u2066-\u2069]/.test(document.documentElement.outerHTML)"
-        self.shows(turned, False)
 
     def test_policy(self) -> None:
         """A script or a style that somebody added does not run."""

@@ -1,46 +1,40 @@
-"""aide-compare json and aide-compare page: what they say of changes, and what they refuse.
-
-The definitions compute from the two databases what the lines have to say.
-"""
+"""aide-compare json and aide-compare page over names and values that could be taken for something
+else, and what the script of a page finds."""
 from __future__ import annotations
 
-import io
-import os
 import json
+import os
 import random
 import subprocess
-import tempfile
 import unittest
-from collections.abc import Callable
 from typing import Any
-from unittest import mock
 
-from tests.lib.program_test import QUICK, ProgramTest, new_seed, slow
+from tests.lib.program_test import QUICK, ProgramTest, new_seed
 from tests.oracle.attributes import NAMES as ATTRIBUTES
 from tests.oracle.configuration import BOOL_OPTIONS, DEFAULTS, LEVELS, SET_OPTIONS
-from tests.oracle.database import database_of, first_fault
 from tests.oracle.lines import lines_of as lines_of_databases
-from tests.program.random_texts.databases import random_pair
-from tests.commands.viewers import deep, hostile, texts
-from tests.commands.viewers.expected import faults_of, without_same_rights
-from tests.commands.viewers.lines import Fields, changes_of, lines_of, objects_of
-from tests.commands.viewers.lines import page_over, proved_lines
+from tests.commands.units.streams import fields_of, stream_of
+from tests.commands.viewers import hostile
+from tests.commands.viewers.lines import Fields, changes_of, objects_of, page_over
+from tests.commands.viewers.lines import without_same_rights
 from tests.commands.viewers.pages import CASES, HAS_NODE, bytes_shown, contrast_faults, seen
-from tests.commands.viewers.refused import LINE_EDITS, rich_lines
 from tests.commands.viewers.schema import Validator, schema_of_lines
 
 from aide_compare.base.words import SEVERITIES
-from aide_compare.lines import reader
 from aide_compare.lines.attributes import FORMS, word_of
-from aide_compare.lines.change import change_of
-from aide_compare.lines.reader import Reader, Refused
 from aide_compare.show.page import CHOICES, part_of, script_of
 
 # Printable by their class, and yet nothing is seen of them: the Hangul fillers, the empty Braille
 # pattern and a variation selector.
 BLANKS_THAT_ARE_LETTERS = "\u115f\u1160\u2800\u3164\ufe0f\uffa0"
 LABELS = {word_of(label): label for label in FORMS}
-PAIRS = 20 if os.environ.get(QUICK) else 40
+PAIRS = 200 if os.environ.get(QUICK) else 400
+# What a line has beside what is proved.
+ADDED = {"old_text", "new_text", "standing", "severity", "package", "standings"}
+# What would make markup, or code, of a text.
+MARKUP = (
+    "innerHTML outerHTML insertAdjacentHTML document.write eval( setTimeout(' .href .src".split()
+)
 
 # What a view finds and how it is written, by the functions of the page's script.
 VIEWED = """(() => {
@@ -98,25 +92,8 @@ def values_in(entry: Fields) -> dict[str, list[bytes | None]]:
     }
 
 
-def read_all(lines: bytes) -> None:
-    for outline in Reader(io.BytesIO(lines)).outlines():
-        try:
-            change_of(json.loads(outline.line))
-        except reader.ODD:
-            raise Refused(0, "no change") from None
-
-
-def is_refused(work: Callable[[bytes], object], lines: bytes) -> bool:
-    try:
-        work(lines)
-    except Refused:
-        return True
-    return False
-
-
-def random_settings(pick: random.Random, folder: str = "") -> dict[str, Any]:
-    names = {"database_in": f"{folder}/old".encode(), "database_new": f"{folder}/new".encode()}
-    settings = {**DEFAULTS, **names}
+def random_settings(pick: random.Random) -> dict[str, Any]:
+    settings: dict[str, Any] = {**DEFAULTS, "database_in": b"/old", "database_new": b"/new"}
     settings["report_level"] = pick.choice(LEVELS + 2 * LEVELS[4:])
     settings.update((name, pick.random() < 0.5) for name in BOOL_OPTIONS)
     for name in SET_OPTIONS:
@@ -125,76 +102,40 @@ def random_settings(pick: random.Random, folder: str = "") -> dict[str, Any]:
     return settings
 
 
-def configuration_of(settings: dict[str, Any]) -> str:
-    """The text of a configuration with these settings."""
-    values = {name: "yes" if settings[name] else "no" for name in BOOL_OPTIONS}
-    values.update((name, "+".join(sorted(settings[name])) or "E") for name in SET_OPTIONS)
-    values["report_level"] = settings["report_level"]
-    for name in ("database_in", "database_new"):
-        values[name] = "file:" + settings[name].decode()
-    return "".join(f"{name}={value}\n" for name, value in values.items())
-
-
 class ViewersTest(ProgramTest):
-    def test_styles_and_script(self) -> None:
+    def test_style(self) -> None:
         self.assertEqual(contrast_faults(part_of("page.css")), [])
-        deep.try_script(script_of(), self)
 
-    def test_texts(self) -> None:
-        texts.try_table(self)
-
-    @slow
-    def test_depth(self) -> None:
-        deep.try_work(self)
-        deep.try_memory(self)
-
-    def test_cuts(self) -> None:
-        """Lines that are cut at any byte are refused."""
-        lines = rich_lines()
-        for work in (objects_of, read_all):
-            kept = [end for end in range(len(lines)) if not is_refused(work, lines[:end])]
-            self.assertEqual(kept, [])
-            work(lines)
-
-    def test_edits(self) -> None:
-        """Lines in which one thing was changed are refused."""
-        lines = lines_of(objects_of(rich_lines()))
-        for name, edit in LINE_EDITS.items():
-            other = edit(lines)
-            with self.subTest(name):
-                self.assertNotEqual(other, lines)
-                self.assertRaises(Refused, read_all, other)
-
-    def test_bounds(self) -> None:
-        """A line is no longer than it may be, and a stream has an end."""
-        head, *changes, end = rich_lines().splitlines(keepends=True)
-        more = b'{"kind":"added","path":"/z%d","summary":"ffffffffffffffffff"}\n'
-        endless = head + b"".join([*changes, *(more % number for number in range(10, 100))])
-        self.assertRaises(Refused, read_all, endless)
-        self.assertGreater(max(map(len, changes)), 300)
-        with mock.patch.object(reader, "LINE_LIMIT", 300):
-            self.assertRaises(Refused, objects_of, head + b"".join(changes) + end)
-            self.assertRaises(Refused, objects_of, head.rstrip(b"\n") + b" " * 1000)
-
-    def check_lines(self, objects: list[Fields], *databases: Any) -> None:
-        """The objects fit the schema, have the texts that they should, and say what differs."""
-        for fields in objects:
-            self.assertEqual(self.validator.faults(fields), [])
-        self.assertEqual(texts.text_faults(objects), [])
-        self.assertEqual(faults_of(objects, *databases), [])
+    def test_script(self) -> None:
+        """The script makes no markup of texts, and fills nested folders in a loop, of which few are
+        open at first: no function of it calls itself as deep as folders are nested."""
+        script = script_of()
+        filling = script[script.index("function fill(") : script.index("function toggle(")]
+        end = script.index("// Folders that are open are filled")
+        filling += script[script.index("function folderItem(") : end]
+        for line in filling.splitlines():
+            if "function" not in line and "CHILDREN" not in line:
+                self.assertNotIn("fill(", line)
+        self.assertIn("opened.size < DEEP", script)
+        for word in MARKUP:
+            self.assertNotIn(word, script)
 
     def test_hostile(self) -> None:
-        """Lines with names and values that could be taken for something else."""
+        """Lines with names and values that could be taken for something else say what the proved
+        ones say."""
         seed = new_seed()
-        self.validator = Validator(schema_of_lines())
-        for number in range(10 * PAIRS):
+        validator = Validator(schema_of_lines())
+        for number in range(PAIRS):
             pick = random.Random(f"hostile {seed} {number}")
-            databases, names = hostile.random_databases(pick)
-            settings = random_settings(pick)
+            (old, new), names = hostile.random_databases(pick)
+            proved = lines_of_databases(old, new, names, random_settings(pick))[0]
             with self.subTest(seed=seed, number=number):
-                old, new = databases
-                objects = objects_of(lines_of_databases(old, new, names, settings)[0])
-                self.check_lines(objects, *databases, names, settings)
+                objects = objects_of(proved)
+                given = []
+                for fields in objects:
+                    self.assertEqual(validator.faults(fields), [])
+                    given.append({name: fields[name] for name in fields if name not in ADDED})
+                self.assertEqual(given, [json.loads(line) for line in proved.splitlines()])
                 if HAS_NODE and number % 20 == 0:
                     self.check_page(objects)
 
@@ -224,7 +165,9 @@ class ViewersTest(ProgramTest):
     @unittest.skipUnless(HAS_NODE, "not installed: node")
     def test_page(self) -> None:
         """What has no room: values go first, then those that matter least."""
-        objects = objects_of(rich_lines())
+        sides: dict[str, Any] = {"old": {"SHA256": "00"}, "new": {"SHA256": "11"}}
+        changes = [fields_of(f"/etc/{number}", "changed", **sides) for number in range(9)]
+        objects = objects_of(os.pread(stream_of(*changes), 1 << 16, 0))
         levels = ("low", "high", "medium")
         for number, fields in enumerate(changes_of(objects)):
             fields.update(standing="open", severity=levels[number % 3])
@@ -261,25 +204,3 @@ class ViewersTest(ProgramTest):
         )
         for case, (found, view) in zip(table["cases"], json.loads(done.stdout)):
             self.assertEqual((found, view), (case["found"], case.get("text", case["view"])), case)
-
-    def test_program(self) -> None:
-        """The program's own lines of random databases, through both commands."""
-        seed = new_seed()
-        self.validator = Validator(schema_of_lines())
-        for number in range(PAIRS):
-            pick = random.Random(f"program {seed} {number}")
-            pair = random_pair(pick)
-            while any(first_fault(text) for text in pair):
-                pair = random_pair(pick)
-            with self.subTest(seed=seed, number=number):
-                self.check_pair(pick, pair)
-
-    def check_pair(self, pick: random.Random, pair: list[bytes]) -> None:
-        with tempfile.TemporaryDirectory() as folder:
-            settings = random_settings(pick, folder)
-            for name, text in zip(("old", "new"), pair):
-                with open(os.path.join(folder, name), "wb") as file:
-                    file.write(text)
-            proved = proved_lines(self.program, configuration_of(settings))
-        objects = objects_of(proved)
-        self.check_lines(objects, *map(database_of, pair), pair, settings)

@@ -175,96 +175,56 @@ class OccasionTest(CommandTest):
         objects = self.compared()
         summary, end = objects[0], objects[-1]
         entry = next(each for each in objects if each.get("kind") == "changed")
-        recorded = changed(entry, standing="recorded", severity="high", package="openssl 3.0.15")
-        for fields in [*objects, recorded]:
-            self.assertEqual(validator.faults(fields), [])
-        read: Fields = {"sha256": "00" * 32, "skipped": []}
         sides = {kind: {side: entry[side]} for kind, side in (("removed", "old"), ("added", "new"))}
         lone = changed(entry, old=..., new=...)
+        silent = changed(entry, severity=...)
+        recorded = changed(entry, standing="recorded", package="openssl 3.0.15")
         good: list[object] = [
+            *objects,
+            recorded,
             changed(summary, old=..., old_hex="2fff"),
-            changed(summary, trusted_old="a", trusted_new=..., trusted_new_hex="ff"),
             changed(lone, kind="added", **sides["added"]),
             changed(lone, kind="removed", **sides["removed"]),
             changed(entry, path=..., path_hex="2fff"),
-            changed(entry, same_as="old", standing="same", severity=...),
-            changed(entry, same_as="trusted", standing="trusted", severity=...),
+            changed(silent, same_as="old", standing="same"),
+            changed(silent, same_as="trusted", standing="trusted"),
             changed(entry, same_as="trusted", standing="open"),
-            changed(entry, left_out=7, standing="left out", severity=...),
-            changed(entry, standing=..., severity=...),
-            changed(end, left_out=3, list={"sha256": "00" * 32}),
-            changed(end, new={**read, "skipped": [1, 64]}),
-            changed(end, skipped={"new": ["fstype"]}),
+            changed(silent, left_out=7, standing="left out"),
+            changed(end, skipped={"new": ["fstype"]}, list={"sha256": "00" * 32}),
         ]
         for value in good:
             with self.subTest(value=value):
                 self.assertEqual(validator.faults(value), [])
+        read: Fields = {"sha256": "00" * 32, "skipped": []}
         bad: list[object] = [
-            {},
-            changed(summary, format=1),
-            changed(summary, format=...),
-            changed(summary, old=...),
-            changed(summary, old=read),
+            [],
             changed(summary, old=..., old_hex="2"),
-            changed(summary, trusted_old=...),
-            changed(summary, trusted_new_hex="2f"),
-            changed(summary, trusted_old="/a", trusted_old_hex="2f", trusted_new="/b"),
-            changed(summary, skipped={"old": ["fstype"]}),
+            changed(summary, old_hex="2f"),
             changed(entry, **end),
-            changed(entry, old=...),
-            changed(entry, new=...),
             changed(entry, kind="removed"),
             changed(lone, kind="added"),
             changed(entry, path=..., path_hex="61"),
             changed(entry, same_as="old"),
             changed(entry, same_as="old", standing="same"),
-            changed(entry, standing="same", severity=...),
-            changed(entry, standing="trusted", severity=...),
-            changed(entry, same_as="old", standing="trusted", severity=...),
-            changed(entry, standing="recorded"),
+            changed(silent, same_as="old", standing="trusted"),
+            *(changed(silent, standing=word) for word in ("same", "trusted", "left out")),
+            changed(recorded, package=...),
             changed(entry, package="openssl 3.0.15"),
-            changed(entry, left_out={"old": 1}, standing="left out", severity=...),
-            changed(entry, left_out=0, standing="left out", severity=...),
             changed(entry, left_out=1),
-            changed(entry, left_out=1, same_as="old", standing="same", severity=...),
-            changed(entry, standing="left out", severity=...),
-            changed(end, old=...),
-            changed(end, new=...),
-            changed(end, old="/a"),
-            changed(end, old={**read, "path": "/a"}),
-            changed(end, new={**read, "sha256": "00"}),
-            changed(end, new={"skipped": []}),
-            changed(end, new={"sha256": "00" * 32}),
-            changed(end, new={**read, "skipped": ["fstype"]}),
-            changed(end, new={**read, "skipped": [0]}),
-            changed(end, new={**read, "skipped": [65]}),
-            changed(end, new={**read, "skipped": [2, 2]}),
-            changed(end, trusted_new=...),
-            changed(end, same_as_trusted=...),
-            changed(end, left_out=...),
-            changed(end, list=...),
-            changed(end, list={"sha256": "00"}),
-            changed(end, skipped=["fstype"]),
-            changed(entry, kind="other"),
-            changed(entry, path="a"),
-            changed(entry, path=...),
-            changed(entry, severity="huge"),
-            changed(entry, summary="f"),
-            changed(entry, summary=...),
-            changed(entry, new={"Sise": 2}),
-            changed(entry, new={"Size": "x"}),
-            changed(entry, new={"Perm": "644"}),
-            changed(entry, new={"SHA256": "<b>"}),
-            changed(entry, new={"ACL_hex": "0"}),
+            changed(silent, left_out=0, standing="left out"),
+            changed(silent, left_out=1, same_as="old", standing="same"),
+            *(changed(entry, new=new) for new in ({"Sise": 2}, {"Size": "x"}, {"Perm": "644"})),
+            *(changed(entry, new=new) for new in ({"SHA256": "<b>"}, {"ACL_hex": "0"})),
             changed(entry, more=3),
-            changed(end, added="1"),
-            changed(end, others=...),
+            changed(end, new={**read, "sha256": "00"}),
+            *(changed(end, new={**read, "skipped": [number]}) for number in (0, 65)),
             changed(end, standings={"open": 1}),
             changed(end, status=8),
-            changed(end, status=...),
-            changed(end, end=False),
-            [],
         ]
+        optional = {"type", "severity", "standing", "standings", "skipped"}
+        for fields in (summary, entry, end):
+            bad += [changed(fields, **{name: 2.5}) for name in fields]
+            bad += [changed(fields, **{name: ...}) for name in fields.keys() - optional]
         for value in bad:
             with self.subTest(value=value):
                 self.assertNotEqual(validator.faults(value), [])

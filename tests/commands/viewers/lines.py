@@ -39,10 +39,6 @@ def changes_of(objects: list[Fields]) -> list[Fields]:
     return [fields for fields in objects if "kind" in fields]
 
 
-def lines_of(objects: list[Fields]) -> bytes:
-    return b"".join(json.dumps(fields).encode() + b"\n" for fields in objects)
-
-
 def order_of(fields: Fields) -> tuple[str, int]:
     """The place of a change among others."""
     return fields["standing"], SEVERITIES.index(fields.get("severity", "high"))
@@ -58,3 +54,36 @@ def page_over(objects: list[Fields], limit: int = MAX_PAGE) -> bytes:
     heading: Fields = {"title": "File changes", "outcome": "", "databases": [database]}
     heading.update(counts=[["open", 1]], remarks=[], facts=[], lists=[])
     return b"".join(page("File changes", "digest", rows.chosen(limit), lambda: heading))
+
+
+# The rights that a line has of both sides, by their letters in the summary string; and the letters
+# that say no difference.
+RIGHTS = {
+    "p": "Perm",
+    "u": "UID",
+    "g": "GID",
+    "A": "ACL",
+    "X": "XAttrs",
+    "S": "SELinux",
+    "C": "Caps",
+}
+SLOTS = "YlZbpugamcinHAXSEC"
+NONE = ".: "
+
+
+def without_same_rights(fields: Fields) -> Fields:
+    """The object of a change with the values that people read: no right that did not differ."""
+    letters = fields.get("summary", "")
+    if fields["kind"] != "changed" or len(letters) != len(SLOTS):
+        return fields
+    sides = [fields.get(side, {}) for side in ("old", "new")]
+    hidden = {
+        RIGHTS[slot] for slot, letter in zip(SLOTS, letters) if slot in RIGHTS and letter in NONE
+    }
+    if letters[0] != "!" and all("Type" in side for side in sides):
+        hidden.add("Type")
+    old, new = (
+        {name: side[name] for name in side if name.removesuffix("_hex") not in hidden}
+        for side in sides
+    )
+    return {**fields, "old": old, "new": new}

@@ -1,30 +1,13 @@
-"""The texts for people in place of values: computed in another way, and a table of what real tools
-printed."""
+"""Values of attributes as people read them: a table of what real tools printed, and values of
+hostile sizes."""
 from __future__ import annotations
 
-import contextlib
-import signal
-import stat
-import unicodedata
-import unittest
-from collections.abc import Iterator
-from typing import Any
+import time
 
-from tests.commands.viewers.expected import without_same_rights
+from tests.commands.units.calls import ModuleTest
 
-from aide_compare.lines.change import Value, change_of
-from aide_compare.lines.readable import decoded, texts_of
-
-TYPES = {
-    "File": stat.S_IFREG,
-    "Directory": stat.S_IFDIR,
-    "Link": stat.S_IFLNK,
-    "Character device": stat.S_IFCHR,
-    "Block device": stat.S_IFBLK,
-    "FIFO": stat.S_IFIFO,
-    "Socket": stat.S_IFSOCK,
-}
-DECODED = ("ACL", "XAttrs", "SELinux", "E2FSAttrs", "Caps")
+from aide_compare.lines.change import Value
+from aide_compare.lines.readable import decoded
 
 # What AIDE 0.18.3 kept of files on ext4 (Debian 12, 2026-11-25), and what these printed of the same
 # files: getfacl 2.3.1, getfattr 2.5.1, lsattr of e2fsprogs 1.47.0, ls -Z's
@@ -126,73 +109,16 @@ LONG = [
 MOST_CHARACTERS, MOST_SECONDS = 17000, 30
 
 
-class TooLong(Exception):
-    """Ends what takes more processor time than it may."""
+class ReadableTest(ModuleTest):
+    def test_table(self) -> None:
+        for label, value, text in TABLE:
+            self.gives(text, decoded, label, value, "File")
 
-
-def stop(*_: object) -> None:
-    raise TooLong
-
-
-@contextlib.contextmanager
-def bounded() -> Iterator[None]:
-    former = signal.signal(signal.SIGPROF, stop)
-    signal.setitimer(signal.ITIMER_PROF, MOST_SECONDS)
-    try:
-        yield
-    finally:
-        signal.setitimer(signal.ITIMER_PROF, 0)
-        signal.signal(signal.SIGPROF, former)
-
-
-def try_table(test: unittest.TestCase) -> None:
-    """The table, and values of hostile sizes."""
-    for label, value, text in TABLE:
-        with test.subTest(label=label, value=value):
-            test.assertEqual(decoded(label, value, "File"), text)
-    for label, value in LONG:
-        with test.subTest(label=label, length=len(value)), bounded():
-            long = decoded(label, value, "File") or ""
-            test.assertLessEqual(len(long), MOST_CHARACTERS)
-            test.assertTrue(long.isprintable(), long[:100])
-
-
-def wanted_text(label: str, value: Any, kind: str | None) -> str | None:
-    """The text of a value that has one, if the table is not what says it."""
-    if label == "Perm":
-        text = stat.filemode(TYPES.get(kind or "", stat.S_IFREG) | int(value, 8))
-        return text if kind in TYPES else text[1:]  # So ls prints it, without an unknown type.
-    return None
-
-
-def is_hidden(letter: str) -> bool:
-    """Whether a letter would not be seen. One that has no meaning yet is shown as a box."""
-    return not letter.isprintable() and unicodedata.category(letter) != "Cn"
-
-
-def text_faults(objects: list[dict[str, Any]]) -> list[str]:
-    """What is wrong with the texts of the changes of these objects."""
-    return [fault for entry in objects if "kind" in entry for fault in faults_of_entry(entry)]
-
-
-def faults_of_entry(entry: dict[str, Any]) -> list[str]:
-    faults = []
-    texts = texts_of(change_of(entry))
-    entry = without_same_rights(entry)
-    kind = entry.get("type") if entry.get("summary", "!")[0] != "!" else None
-    sides = [entry.get(side, {}) for side in ("old", "new")]
-    for values, given in zip(sides, texts):
-        for name, value in values.items():
-            label = name[:-4] if name.endswith("_hex") else name
-            text = given.get(label)
-            wanted = wanted_text(label, value, values.get("Type", kind))
-            if text != wanted and label not in DECODED:
-                faults.append(f"{label} of {entry} has the text {text!r}, and not {wanted!r}")
-            if text is not None and any(map(is_hidden, text)):
-                faults.append(f"{label} of {entry} has the text {text!r}")
-    for label in set(texts[0]) & set(texts[1]):
-        names = [name for name in (label, label + "_hex") if name in sides[0]]
-        is_other = any(sides[0][name] != sides[1].get(name) for name in names)
-        if texts[0][label] == texts[1][label] and is_other:
-            faults.append(f"{label} of {entry} has one text for two values")
-    return faults
+    def test_long(self) -> None:
+        for label, value in LONG:
+            began = time.process_time()
+            text = decoded(label, value, "File") or ""
+            with self.subTest(label=label, length=len(value)):
+                self.assertLess(time.process_time() - began, MOST_SECONDS)
+                self.assertLessEqual(len(text), MOST_CHARACTERS)
+                self.assertTrue(text.isprintable(), text[:100])
