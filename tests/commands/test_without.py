@@ -12,7 +12,7 @@ from tests.lib.scratch import read
 
 from . import mail
 from . import test_standings as standings
-from .sandbox import CommandTest, END, HEAD, NOBODY, sha256
+from .sandbox import CommandTest, END, HEAD, sha256
 
 JSON = "aide-compare json"
 LOGS = b"# Logs\n\n  /var/log/**  \n/etc/*.bak\n"
@@ -109,17 +109,6 @@ def list_database(path: bytes, column: bytes, digest: bytes) -> bytes:
     return head + b"%s 4194340 100644 1 %s\n" % (path, digest) + END
 
 
-def measured(
-    path: bytes = b"/srv/x",
-    mode: bytes = b"100644",
-    owner: int = 0,
-    size: int = 1,
-    capabilities: bytes = b"0",
-) -> bytes:
-    """An entry of a database with the columns of MEASURED."""
-    return b"%s 44 %s %d %d %s\n" % (path, mode, owner, size, capabilities)
-
-
 class WithoutTest(CommandTest):
     def setUp(self) -> None:
         super().setUp()
@@ -211,35 +200,11 @@ class WithoutTest(CommandTest):
         self.assertEqual(set(self.standings(answer).values()), {"same", "trusted"}, answer)
         self.assertEqual(answer.status, 0)
 
-    def test_damage(self) -> None:
-        """Damage in lines that would be left out is found all the same."""
-        short = NEW.replace(b"/var/log/x%20y 36 100644 2", b"/var/log/x%20y 36 100644")
-        for text, said in (
-            (short, b"new database:6: wrong number of fields"),
-            (NEW.replace(END, b"/z 36 x 1\n" + END), b"new database:7: bad number in column 3"),
-            (NEW.replace(END, b""), b": no @@end_db"),
-        ):
-            self.write("damaged.db", text)
-            answer = self.call(JSON, "--exclude", "/var/log/**", "o.db", "damaged.db")
-            self.expect("%r" % said, answer, 24, b"", said)
-
-    def test_names(self) -> None:
-        """The column `name` is found wherever it is, names are decoded, and hostile patterns are
-        escaped where they are shown."""
-        for name, size in (("o.db", 1), ("n.db", 2)):
-            lines = b"36 /a%%2Fb %d 100644\n36 /c%%ZZ %d 100644\n" % (size, size)
-            self.write(name, b"@@begin_db\n@@db_spec attr name size perm\n" + lines + END)
-        answer = self.call(JSON, "--exclude", "/a/*", "o.db", "n.db")
-        self.assertEqual(self.open_in(answer), [b"/c%ZZ"], "decoded names")
-        answer = self.call(JSON, "--exclude", "/[c]%ZZ", "--exclude", "x\x1b[0m", "o.db", "n.db")
-        self.expect("an escape is not obeyed", answer, 17, b"", b"x\\033[0m")
-
     def test_rights(self) -> None:
         """What gives rights is always told, and so is what has no mode or comes from a database
         without modes."""
         lines = [
-            measured(b"/a/%02d" % number, row[1], row[2], capabilities=row[3])
-            for number, row in enumerate(RIGHTS)
+            b"/a/%02d 44 %s %d 1 %s\n" % (number, *row[1:4]) for number, row in enumerate(RIGHTS)
         ]
         self.write("full.db", MEASURED + b"".join(lines) + END)
         self.write("none.db", MEASURED + END)
@@ -255,87 +220,6 @@ class WithoutTest(CommandTest):
         text = b"@@begin_db\n@@db_spec name size\n/a/x 1\n" + END
         self.assertEqual(self.seen(text, "--exclude", "/a/**"), [b"/a/x"], "no modes")
 
-    def test_attack(self) -> None:
-        """Each of these is told as open, whatever a line of the list says, with the severity that it
-        has."""
-        self.write("list", b"/srv/**\n/srv/.x\n/etc/**\nprograms(why) /srv/ok\n")
-        plain, program, set_id = measured(b"/srv/x"), measured(mode=b"100755"), b"104644"
-        directory = measured(mode=b"40755")
-        rows: list[tuple[str, bytes, bytes, bool]] = [
-            ("a set-ID file", plain, measured(mode=set_id), True),
-            ("a set-group-ID file", plain, measured(mode=b"102644"), True),
-            ("a new program", b"", program, True),
-            ("a file that became a program", plain, program, True),
-            ("what was a program", program, plain, True),
-            ("a directory that was opened to others", directory, measured(mode=b"40777"), True),
-            ("a directory of another owner", directory, measured(mode=b"40755", owner=1000), True),
-            ("a device", b"", measured(mode=b"60600"), True),
-            ("a dotfile", b"", measured(b"/srv/.profile"), True),
-            ("a setting", b"", measured(b"/etc/aide-compare/without"), True),
-            ("a file with capabilities", plain, measured(capabilities=b"AAA="), True),
-            ("what had a set-ID bit", measured(mode=set_id), plain, True),
-            ("a file that changed", plain, measured(size=2), False),
-            ("a dotfile that a line spells", b"", measured(b"/srv/.x"), False),
-            ("a program that a line marks", b"", measured(b"/srv/ok", b"100755"), False),
-        ]
-        for what, old, new, is_told in rows:
-            with self.subTest(what):
-                changed = (new or old).split(b" ")[:1] if is_told else []
-                for name, entry in (("from.db", old), ("to.db", new)):
-                    self.write(name, MEASURED + entry + END)
-                answer = self.call(JSON, "--exclude-from", "list", "from.db", "to.db")
-                self.assertEqual(self.open_in(answer), changed)
-
-    def test_capabilities(self) -> None:
-        """AIDE takes the bit of capabilities out of the entry of each file that has none. So a line
-        means programs too in a database that has the column, and in no other."""
-        rows: list[tuple[bytes, bytes, list[bytes]]] = [
-            (b"size capabilities", b"1 0", []),
-            (b"size", b"1", [b"/a/x"]),
-        ]
-        for columns, fields, seen in rows:
-            head = b"@@begin_db\n@@db_spec name attr perm %s\n" % columns
-            text = head + b"/a/x 36 100755 %s\n" % fields + END
-            self.assertEqual(self.seen(text, "--exclude", "programs(why) /a/**"), seen, columns)
-
-    def test_hidden_names(self) -> None:
-        """As in a shell, no wildcard stands for a dot at the beginning of a name."""
-        names = [b"/a/.x", b"/a/.x/y", b"/a/b/.x", b"/a/b/.x/.y", b"/a/b/x.y"]
-        text = files(dict.fromkeys(names, 1))
-        rows: list[tuple[str, list[bytes]]] = [
-            ("/a/**", [b"/a/b/x.y"]),
-            ("/**/.x", [b"/a/.x", b"/a/b/.x"]),
-            ("/a/.*", [b"/a/.x"]),
-            ("/a/[.]x", []),
-            ("/a/?x", []),
-            ("/a/**/.x/**", [b"/a/.x/y"]),
-            ("/a/b/.x/.*", [b"/a/b/.x/.y"]),
-            ("/**/.*/.y", [b"/a/b/.x/.y"]),
-            ("/a/b/.x/.y", [b"/a/b/.x/.y"]),
-        ]
-        for pattern, left_out in rows:
-            wanted = [name for name in names if name not in left_out]
-            self.assertEqual(self.seen(text, "--exclude", pattern), wanted, pattern)
-
-    def test_marks(self) -> None:
-        """The mark needs a reason. A line that means programs too does so beside a line that does
-        not, in either order."""
-        head = HEAD.replace(b"size", b"size capabilities")
-        self.write("program.db", head + b"/a/x 36 100755 1 0\n" + END)
-        for text, status in (
-            (b"/a/*\nprograms(why) /a/x", 0),
-            (b"programs(why)  /a/x\n/a/*", 0),
-            (b"programs(why) /b\n/a/*", 1),
-            (b"programs() /a/x", 17),
-            (b"programs( ) /a/x", 17),
-            (b"programs /a/x", 17),
-            (b"programs(why)/a/x", 17),
-            (b"devices(why) /a/x", 17),
-        ):
-            self.write("marks", text)
-            answer = self.call(JSON, "--exclude-from", "marks", "empty.db", "program.db")
-            self.expect("the lines %r" % text, answer, status)
-
     def test_refused(self) -> None:
         """A fault names the file and the line, or the option."""
         self.write("good", b"# a comment\n/a\n")
@@ -344,12 +228,15 @@ class WithoutTest(CommandTest):
         self.write("nul", b"/a\n/b\0c\n")
         self.write("large", b"# comment\n" * 13200)
         self.write("many", b"/a\n" * 501)
+        self.write("open", b"/a\n", 0o666)
+        os.symlink("open", self.path("link"))
         double = b": ** is a component of its own: /b**\n"
         for words, status, said in (
             (["--exclude-from", "none"], 18, b"none"),
             (["--exclude-from", "bin"], 18, b"bin"),
             (["--exclude-from", ""], 15, b""),
-            (["--exclude", "var"], 17, b"--exclude: a path begins with /: var"),
+            (["--exclude-from", "link"], 18, b"other users can write the file"),
+            (["--exclude", "var\x1b"], 17, b"--exclude: a path begins with /: var\\033"),
             (["--exclude", "/a\n/**"], 15, b"--exclude has more than one line: /a\\012/**"),
             (["--exclude-from", "bad"], 17, b"bad, line 2" + double),
             (["--exclude-from", "good", "--exclude-from", "bad"], 17, b"bad, line 2" + double),
@@ -365,28 +252,6 @@ class WithoutTest(CommandTest):
         self.write("almost", b"# comment\n" * 13100)
         self.expect("a large list", self.call(JSON, "--exclude-from", "almost", "o.db", "n.db"), 7)
 
-    def test_writable(self) -> None:
-        """A list that other users can write is refused."""
-        said = b"other users can write"
-        for name, mode, directory_mode, owner in (
-            ("of a group", 0o664, 0o755, 0),
-            ("of everybody", 0o646, 0o755, 0),
-            ("of another user", 0o644, 0o755, NOBODY),
-            ("in an open directory", 0o644, 0o777, 0),
-        ):
-            path = self.write(f"{name}/logs", LOGS, mode)
-            os.chmod(os.path.dirname(path), directory_mode)
-            if os.getuid() == 0:
-                os.chown(path, owner, owner)
-            elif owner or directory_mode == 0o777:
-                continue
-            answer = self.call(JSON, "--exclude-from", f"{name}/logs", "o.db", "n.db")
-            self.expect("a list " + name, answer, 18, b"", said)
-            link = self.path(f"link to a list {name}")
-            os.symlink(path, link)
-            answer = self.call(JSON, "--exclude-from", link, "o.db", "n.db")
-            self.expect(f"a link to a list {name}", answer, 18, b"", said)
-
     def test_shipped(self) -> None:
         """The shipped file is read. What programs write each night is left out, and nothing that
         anything runs or obeys."""
@@ -395,17 +260,6 @@ class WithoutTest(CommandTest):
         text = files(dict.fromkeys(paths, 1))
         self.write("list", read("contrib/aide/debian.without"))
         self.assertEqual(set(self.seen(text, "--exclude-from", "list")), set(seen))
-
-    def test_settings(self) -> None:
-        """No line leaves out what decides on what is reported: everything in /etc/aide-compare, and
-        the folder itself."""
-        top = b"/etc/aide-compare"
-        settings, neighbour = [top, top + b"/defaults", top + b"/x/y"], top + b"r"
-        text = files(dict.fromkeys([*settings, neighbour], 1))
-        for pattern in ("/etc/**", "/**", "/etc/aide-compare/*", "/etc/aide-compare*"):
-            seen = self.seen(text, "--exclude", pattern)
-            self.assertEqual(seen[:3], settings, pattern)
-            self.assertEqual(seen[3:], [neighbour] if pattern.endswith("/*") else [], pattern)
 
     def test_changed_list(self) -> None:
         """A list that is not as in the old database is reported, even if nothing differs."""
