@@ -17,10 +17,8 @@ NAMED = re.compile(rf"^    \((\w+), ({TEXT}), (true|false), (\d+)\),$", re.MULTI
 FAULTY = re.compile(rf"^    \(({TEXT}), (\d+), PatternFault::(\w+)\),$", re.MULTILINE)
 REASONS = re.compile(r"const BAD_REASONS: .* = \[(.*)\];")
 SIZES = re.compile(r"; (\d+)\] = \[")
-ROW = re.compile(r"\bRow \{\s*list: (\w+),\s*old: (\w+),\s*new: (\w+),\s*line: (\d+),?\s*\}")
-MEASURED = re.compile(
-    r"Measured \{\s*old: (\w+),\s*new: (\w+),\s*of_old: (\w+),\s*of_new: (\w+),\s*line: (\d+),?\s*\}"
-)
+ROW = re.compile(r"^    \((\w+), (\w+), (\w+), (\d+)\),$", re.MULTILINE)
+MEASURED = re.compile(r"^    \((\w+), (\w+), (true|false), (true|false), (\d+)\),$", re.MULTILINE)
 BEGINNING = b"@@begin_db\n@@db_spec name perm uid gid acl capabilities\n"
 
 

@@ -29,6 +29,14 @@ struct Wanted {
 }
 
 impl Wanted {
+    fn new(entries: u64, line: u64, fault: Option<DbFaultKind>) -> Wanted {
+        Wanted {
+            entries,
+            line,
+            fault,
+        }
+    }
+
     fn answer(self) -> Result<Step, DbFault> {
         match self.fault {
             None => Ok(Step::End),

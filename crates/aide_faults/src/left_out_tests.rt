@@ -6,13 +6,7 @@ use std::alloc::{AllocError, Global};
 use std::process::Abort;
 
 /// A list, the only entries of two databases or none, and the line of the list that leaves out the change, or 0.
-#[derive(Clone, Copy)]
-struct Row {
-    list: &'static [u8],
-    old: &'static [u8],
-    new: &'static [u8],
-    line: u64,
-}
+type Row = (&'static [u8], &'static [u8], &'static [u8], u64);
 
 const ALL: &[u8] = b"# all\n/**\nprograms(made anew) /**\n/**";
 
@@ -66,270 +60,52 @@ const IN_SETTINGS: &[u8] = b"/etc/aide%2Dcompare/a 100644 0 0 0 0";
 const BESIDE_SETTINGS: &[u8] = b"/etc/aide%2Dcompared 100644 0 0 0 0";
 
 const ROWS: [Row; 36] = [
-    Row {
-        list: ALL,
-        old: FILE,
-        new: OTHER,
-        line: 2,
-    },
-    Row {
-        list: ALL,
-        old: FILE,
-        new: NONE,
-        line: 2,
-    },
-    Row {
-        list: ALL,
-        old: NONE,
-        new: FILE,
-        line: 2,
-    },
-    Row {
-        list: ALL,
-        old: FILE,
-        new: PROGRAM,
-        line: 3,
-    },
-    Row {
-        list: ALL,
-        old: PROGRAM,
-        new: FILE,
-        line: 3,
-    },
-    Row {
-        list: ALL,
-        old: NONE,
-        new: PROGRAM,
-        line: 3,
-    },
-    Row {
-        list: LATER,
-        old: FILE,
-        new: OTHER,
-        line: 2,
-    },
-    Row {
-        list: LATER,
-        old: FILE,
-        new: PROGRAM,
-        line: 0,
-    },
-    Row {
-        list: NONE,
-        old: FILE,
-        new: OTHER,
-        line: 0,
-    },
-    Row {
-        list: ALL,
-        old: SET_USER,
-        new: FILE,
-        line: 0,
-    },
-    Row {
-        list: ALL,
-        old: FILE,
-        new: SET_USER,
-        line: 0,
-    },
-    Row {
-        list: ALL,
-        old: SET_GROUP,
-        new: NONE,
-        line: 0,
-    },
-    Row {
-        list: ALL,
-        old: FILE,
-        new: CAPABLE,
-        line: 0,
-    },
-    Row {
-        list: ALL,
-        old: CAPABLE,
-        new: FILE,
-        line: 0,
-    },
-    Row {
-        list: ALL,
-        old: FILE,
-        new: LINK,
-        line: 2,
-    },
-    Row {
-        list: ALL,
-        old: NONE,
-        new: DEVICE,
-        line: 0,
-    },
-    Row {
-        list: ALL,
-        old: DEVICE,
-        new: SHUT_DEVICE,
-        line: 0,
-    },
-    Row {
-        list: ALL,
-        old: NONE,
-        new: SHUT_DEVICE,
-        line: 2,
-    },
-    Row {
-        list: ALL,
-        old: NONE,
-        new: DEVICE_OF_A_USER,
-        line: 0,
-    },
-    Row {
-        list: ALL,
-        old: FILE,
-        new: UNTYPED,
-        line: 0,
-    },
-    Row {
-        list: ALL,
-        old: UNTYPED,
-        new: NONE,
-        line: 0,
-    },
-    Row {
-        list: ALL,
-        old: FILE,
-        new: UNKNOWN,
-        line: 0,
-    },
-    Row {
-        list: ALL,
-        old: NONE,
-        new: DIRECTORY,
-        line: 2,
-    },
-    Row {
-        list: ALL,
-        old: NONE,
-        new: OF_A_USER,
-        line: 2,
-    },
-    Row {
-        list: ALL,
-        old: DIRECTORY,
-        new: OF_A_USER,
-        line: 0,
-    },
-    Row {
-        list: ALL,
-        old: FILE,
-        new: OPEN,
-        line: 0,
-    },
-    Row {
-        list: ALL,
-        old: NONE,
-        new: OPEN,
-        line: 0,
-    },
-    Row {
-        list: ALL,
-        old: OPEN,
-        new: OPEN,
-        line: 2,
-    },
-    Row {
-        list: ALL,
-        old: OPEN,
-        new: NONE,
-        line: 2,
-    },
-    Row {
-        list: ALL,
-        old: OPEN,
-        new: OPEN_TO_MORE,
-        line: 0,
-    },
-    Row {
-        list: ALL,
-        old: OPEN,
-        new: OPEN_BY_A_LIST,
-        line: 0,
-    },
-    Row {
-        list: ALL,
-        old: DIRECTORY,
-        new: OPEN,
-        line: 0,
-    },
-    Row {
-        list: ALL,
-        old: SET_USER_DIRECTORY,
-        new: NONE,
-        line: 0,
-    },
-    Row {
-        list: SETTINGS,
-        old: SETTING,
-        new: NONE,
-        line: 0,
-    },
-    Row {
-        list: SETTINGS,
-        old: NONE,
-        new: IN_SETTINGS,
-        line: 0,
-    },
-    Row {
-        list: SETTINGS,
-        old: NONE,
-        new: BESIDE_SETTINGS,
-        line: 1,
-    },
+    (ALL, FILE, OTHER, 2),
+    (ALL, FILE, NONE, 2),
+    (ALL, NONE, FILE, 2),
+    (ALL, FILE, PROGRAM, 3),
+    (ALL, PROGRAM, FILE, 3),
+    (ALL, NONE, PROGRAM, 3),
+    (LATER, FILE, OTHER, 2),
+    (LATER, FILE, PROGRAM, 0),
+    (NONE, FILE, OTHER, 0),
+    (ALL, SET_USER, FILE, 0),
+    (ALL, FILE, SET_USER, 0),
+    (ALL, SET_GROUP, NONE, 0),
+    (ALL, FILE, CAPABLE, 0),
+    (ALL, CAPABLE, FILE, 0),
+    (ALL, FILE, LINK, 2),
+    (ALL, NONE, DEVICE, 0),
+    (ALL, DEVICE, SHUT_DEVICE, 0),
+    (ALL, NONE, SHUT_DEVICE, 2),
+    (ALL, NONE, DEVICE_OF_A_USER, 0),
+    (ALL, FILE, UNTYPED, 0),
+    (ALL, UNTYPED, NONE, 0),
+    (ALL, FILE, UNKNOWN, 0),
+    (ALL, NONE, DIRECTORY, 2),
+    (ALL, NONE, OF_A_USER, 2),
+    (ALL, DIRECTORY, OF_A_USER, 0),
+    (ALL, FILE, OPEN, 0),
+    (ALL, NONE, OPEN, 0),
+    (ALL, OPEN, OPEN, 2),
+    (ALL, OPEN, NONE, 2),
+    (ALL, OPEN, OPEN_TO_MORE, 0),
+    (ALL, OPEN, OPEN_BY_A_LIST, 0),
+    (ALL, DIRECTORY, OPEN, 0),
+    (ALL, SET_USER_DIRECTORY, NONE, 0),
+    (SETTINGS, SETTING, NONE, 0),
+    (SETTINGS, NONE, IN_SETTINGS, 0),
+    (SETTINGS, NONE, BESIDE_SETTINGS, 1),
 ];
 
 /// The only entries of two databases or none, whether each database has the column of capabilities, and the line of the
 /// first list that leaves out the change, or 0.
-struct Measured {
-    old: &'static [u8],
-    new: &'static [u8],
-    of_old: bool,
-    of_new: bool,
-    line: u64,
-}
-
-const MEASURED: [Measured; 5] = [
-    Measured {
-        old: PROGRAM,
-        new: FILE,
-        of_old: false,
-        of_new: true,
-        line: 0,
-    },
-    Measured {
-        old: PROGRAM,
-        new: FILE,
-        of_old: true,
-        of_new: false,
-        line: 3,
-    },
-    Measured {
-        old: NONE,
-        new: PROGRAM,
-        of_old: true,
-        of_new: false,
-        line: 0,
-    },
-    Measured {
-        old: NONE,
-        new: PROGRAM,
-        of_old: false,
-        of_new: true,
-        line: 3,
-    },
-    Measured {
-        old: FILE,
-        new: OTHER,
-        of_old: false,
-        of_new: false,
-        line: 2,
-    },
+const MEASURED: [(&[u8], &[u8], bool, bool, u64); 5] = [
+    (PROGRAM, FILE, false, true, 0),
+    (PROGRAM, FILE, true, false, 3),
+    (NONE, PROGRAM, true, false, 0),
+    (NONE, PROGRAM, false, true, 3),
+    (FILE, OTHER, false, false, 2),
 ];
 
 const LIMITS: Limits = Limits {
@@ -380,48 +156,29 @@ fn hold_entry(rt: &impl Abort, alloc: Global, desk: &mut Desk<Global>, side: Sid
 }
 
 /// Checks which line of a list leaves out a change.
-fn assert_line(rt: &impl Abort, alloc: Global, row: &Row, measures: Measures) {
-    let Ok(list) = Exclusions::read(alloc, row.list) else {
+fn assert_line(rt: &impl Abort, alloc: Global, row: Row, of_old: bool, of_new: bool) {
+    let (list, old, new, line) = row;
+    let Ok(exclusions) = Exclusions::read(alloc, list) else {
         assert!(rt; false, "the list");
         return;
     };
     let mut desk = Desk::new(alloc);
-    hold_entry(rt, alloc, &mut desk, Side::Old, row.old);
-    hold_entry(rt, alloc, &mut desk, Side::New, row.new);
-    let line = line_of(&list, measures, &desk);
-    assert!(rt;
-        line == row.line,
-        "{:?} {:?} {:?}: {line}",
-        row.list,
-        row.old,
-        row.new
-    );
+    hold_entry(rt, alloc, &mut desk, Side::Old, old);
+    hold_entry(rt, alloc, &mut desk, Side::New, new);
+    let found = line_of(&exclusions, Measures { of_old, of_new }, &desk);
+    assert!(rt; found == line, "{list:?} {old:?} {new:?}: {found}");
 }
 
 #[test]
 fn the_lines_that_leave_out_changes(rt: HostRuntime) {
     for row in &ROWS {
-        let measures = Measures {
-            of_old: true,
-            of_new: true,
-        };
-        assert_line(&rt, rt.alloc(), row, measures);
+        assert_line(&rt, rt.alloc(), *row, true, true);
     }
 }
 
 #[test]
 fn the_programs_of_databases_without_capabilities(rt: HostRuntime) {
-    for measured in &MEASURED {
-        let row = Row {
-            list: ALL,
-            old: measured.old,
-            new: measured.new,
-            line: measured.line,
-        };
-        let measures = Measures {
-            of_old: measured.of_old,
-            of_new: measured.of_new,
-        };
-        assert_line(&rt, rt.alloc(), &row, measures);
+    for (old, new, of_old, of_new, line) in &MEASURED {
+        assert_line(&rt, rt.alloc(), (ALL, *old, *new, *line), *of_old, *of_new);
     }
 }

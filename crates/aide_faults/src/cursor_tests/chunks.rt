@@ -12,7 +12,7 @@ use std::test::Fail;
 struct WatchedReel<'a> {
     bytes: &'a [u8],
     reads: usize,
-    answers: [usize; 8],
+    answers: [usize; 4],
 }
 
 impl<'a> WatchedReel<'a> {
@@ -42,65 +42,14 @@ impl<'a> Reel for WatchedReel<'a> {
     }
 }
 
-/// The reads of a database of 10,000 bytes, under a limit on its bytes.
-struct Reads {
-    limit: u64,
-    reads: usize,
-    first: usize,
-    second: usize,
-    third: usize,
-    fourth: usize,
-}
-
-const READS: [Reads; 6] = [
-    Reads {
-        limit: 1_048_576,
-        reads: 4,
-        first: 4096,
-        second: 4096,
-        third: 1808,
-        fourth: 0,
-    },
-    Reads {
-        limit: 10_000,
-        reads: 4,
-        first: 4096,
-        second: 4096,
-        third: 1808,
-        fourth: 0,
-    },
-    Reads {
-        limit: 9_999,
-        reads: 3,
-        first: 4096,
-        second: 4096,
-        third: 1808,
-        fourth: 0,
-    },
-    Reads {
-        limit: 8_192,
-        reads: 3,
-        first: 4096,
-        second: 4096,
-        third: 1,
-        fourth: 0,
-    },
-    Reads {
-        limit: 8_191,
-        reads: 2,
-        first: 4096,
-        second: 4096,
-        third: 0,
-        fourth: 0,
-    },
-    Reads {
-        limit: 100,
-        reads: 1,
-        first: 101,
-        second: 0,
-        third: 0,
-        fourth: 0,
-    },
+/// A limit on the bytes of a database of 10,000 bytes, and what the reads under this limit give.
+const READS: [(u64, usize, [usize; 4]); 6] = [
+    (1_048_576, 4, [4096, 4096, 1808, 0]),
+    (10_000, 4, [4096, 4096, 1808, 0]),
+    (9_999, 3, [4096, 4096, 1808, 0]),
+    (8_192, 3, [4096, 4096, 1, 0]),
+    (8_191, 2, [4096, 4096, 0, 0]),
+    (100, 1, [101, 0, 0, 0]),
 ];
 
 /// A sound database of this number of bytes. Most of them follow its end line.
@@ -115,24 +64,20 @@ fn reads_of_a_whole_database(rt: HostRuntime) -> Result<(), Fail> {
     let text = database_of(rt.alloc(), 10_000)?;
     let mut desk = Desk::new(rt.alloc());
     let mut tried = 0usize;
-    for row in &READS {
+    for (bytes, reads, answers) in &READS {
         let limits = Limits {
             line: 65_536,
-            bytes: row.limit,
+            bytes: *bytes,
         };
         if limits.bytes < 2_000_000 {
             let reel = WatchedReel {
                 bytes: &text,
                 reads: 0,
-                answers: [0; 8],
+                answers: [0; 4],
             };
             let (_, _, reel) = read_whole(&rt, reel, limits, &mut desk);
-            let wanted = [row.first, row.second, row.third, row.fourth, 0, 0, 0, 0];
-            assert!(rt;
-                reel.reads == row.reads && reel.answers == wanted,
-                "limit {}",
-                row.limit
-            );
+            let right = reel.reads == *reads && reel.answers == *answers;
+            assert!(rt; right, "limit {bytes}");
             tried = tried.saturating_add(1);
         }
     }
@@ -222,11 +167,7 @@ fn out_of_order(alloc: Global, newline: usize) -> Result<Vec<u8>, AllocError> {
 #[test]
 fn two_entries_out_of_order_about_the_border_of_a_chunk(rt: HostRuntime) -> Result<(), Fail> {
     let mut desk = Desk::new(rt.alloc());
-    let wanted = Wanted {
-        entries: 1,
-        line: 4,
-        fault: Some(Kind::OutOfOrder),
-    };
+    let wanted = Wanted::new(1, 4, Some(Kind::OutOfOrder));
     for newline in 4080..4110 {
         let text = out_of_order(rt.alloc(), newline)?;
         assert_read(&rt, &mut desk, &text, LIMITS, wanted);

@@ -2,129 +2,40 @@
 use super::{LIMITS, Wanted, assert_read, read_whole, refuse_each};
 use crate::pace::PACES;
 use crate::{Pace, PlannedReel};
-use aide_db::{DbFault, DbFaultKind as Kind, Desk, Side};
+use aide_db::{DbFaultKind as Kind, Desk};
 use std::alloc::Allocator;
 use std::process::Abort;
 
 const SOUND: &[u8] =
     b"@@begin_db\n@@db_spec name attr perm size\n/b 36 40755 4096\n/c 36 100644 10\n@@end_db\n";
 
-/// What a cursor returns for a text that is cut after this number of bytes: the fault, or the end.
-struct Cut {
-    least: usize,
-    most: usize,
-    entries: u64,
-    line: u64,
-    fault: Option<Kind>,
-}
-
-const CUTS: [Cut; 13] = [
-    Cut {
-        least: 0,
-        most: 9,
-        entries: 0,
-        line: 1,
-        fault: Some(Kind::NoBegin),
-    },
-    Cut {
-        least: 10,
-        most: 11,
-        entries: 0,
-        line: 2,
-        fault: Some(Kind::NoEnd),
-    },
-    Cut {
-        least: 12,
-        most: 12,
-        entries: 0,
-        line: 2,
-        fault: Some(Kind::NoSpec),
-    },
-    Cut {
-        least: 13,
-        most: 19,
-        entries: 0,
-        line: 2,
-        fault: Some(Kind::BadDirective),
-    },
-    Cut {
-        least: 20,
-        most: 24,
-        entries: 0,
-        line: 2,
-        fault: Some(Kind::BadSpec),
-    },
-    Cut {
-        least: 25,
-        most: 41,
-        entries: 0,
-        line: 3,
-        fault: Some(Kind::NoEnd),
-    },
-    Cut {
-        least: 42,
-        most: 53,
-        entries: 0,
-        line: 3,
-        fault: Some(Kind::FieldCount),
-    },
-    Cut {
-        least: 54,
-        most: 58,
-        entries: 1,
-        line: 4,
-        fault: Some(Kind::NoEnd),
-    },
-    Cut {
-        least: 59,
-        most: 71,
-        entries: 1,
-        line: 4,
-        fault: Some(Kind::FieldCount),
-    },
-    Cut {
-        least: 72,
-        most: 74,
-        entries: 2,
-        line: 5,
-        fault: Some(Kind::NoEnd),
-    },
-    Cut {
-        least: 75,
-        most: 75,
-        entries: 2,
-        line: 5,
-        fault: Some(Kind::FieldCount),
-    },
-    Cut {
-        least: 76,
-        most: 81,
-        entries: 2,
-        line: 5,
-        fault: Some(Kind::BadDirective),
-    },
-    Cut {
-        least: 82,
-        most: 83,
-        entries: 2,
-        line: 5,
-        fault: None,
-    },
+/// The least and the most bytes after which a text is cut, and what a cursor then returns: the number of entries, and
+/// the line and the kind of the fault, if it has one.
+const CUTS: [(usize, usize, u64, u64, Option<Kind>); 13] = [
+    (0, 9, 0, 1, Some(Kind::NoBegin)),
+    (10, 11, 0, 2, Some(Kind::NoEnd)),
+    (12, 12, 0, 2, Some(Kind::NoSpec)),
+    (13, 19, 0, 2, Some(Kind::BadDirective)),
+    (20, 24, 0, 2, Some(Kind::BadSpec)),
+    (25, 41, 0, 3, Some(Kind::NoEnd)),
+    (42, 53, 0, 3, Some(Kind::FieldCount)),
+    (54, 58, 1, 4, Some(Kind::NoEnd)),
+    (59, 71, 1, 4, Some(Kind::FieldCount)),
+    (72, 74, 2, 5, Some(Kind::NoEnd)),
+    (75, 75, 2, 5, Some(Kind::FieldCount)),
+    (76, 81, 2, 5, Some(Kind::BadDirective)),
+    (82, 83, 2, 5, None),
 ];
 
 #[test]
 fn cut_after_each_byte(rt: HostRuntime) {
     let mut desk = Desk::new(rt.alloc());
     let mut tried = 0;
-    for row in &CUTS {
-        let wanted = Wanted {
-            entries: row.entries,
-            line: row.line,
-            fault: row.fault,
-        };
-        for bytes in row.least..row.most.saturating_add(1) {
+    for (least, most, entries, line, fault) in &CUTS {
+        for bytes in *least..most.saturating_add(1) {
             let text = SOUND.get(..bytes).unwrap_or(b"");
             assert!(rt; text.len() == bytes && bytes == tried);
+            let wanted = Wanted::new(*entries, *line, *fault);
             assert_read(&rt, &mut desk, text, LIMITS, wanted);
             tried = tried.saturating_add(1);
         }
@@ -134,44 +45,12 @@ fn cut_after_each_byte(rt: HostRuntime) {
 
 /// The least and the most bytes after which a reel fails, the number of entries before the failure, and the line of the
 /// fault.
-struct Failure {
-    least: u64,
-    most: u64,
-    entries: u64,
-    line: u64,
-}
-
-const FAILURES: [Failure; 5] = [
-    Failure {
-        least: 0,
-        most: 10,
-        entries: 0,
-        line: 1,
-    },
-    Failure {
-        least: 11,
-        most: 40,
-        entries: 0,
-        line: 2,
-    },
-    Failure {
-        least: 41,
-        most: 57,
-        entries: 0,
-        line: 3,
-    },
-    Failure {
-        least: 58,
-        most: 73,
-        entries: 1,
-        line: 4,
-    },
-    Failure {
-        least: 74,
-        most: 82,
-        entries: 2,
-        line: 5,
-    },
+const FAILURES: [(u64, u64, u64, u64); 5] = [
+    (0, 10, 0, 1),
+    (11, 40, 0, 2),
+    (41, 57, 0, 3),
+    (58, 73, 1, 4),
+    (74, 82, 2, 5),
 ];
 
 /// A reel that fails after this number of bytes.
@@ -187,22 +66,15 @@ fn reel_of(pace: Pace, sound: u64, once: bool) -> PlannedReel<'static> {
 fn assert_fails<A: Allocator + Copy>(
     rt: &impl Abort,
     desk: &mut Desk<A>,
-    row: &Failure,
     sound: u64,
+    wanted: Wanted,
 ) {
-    let wanted = Err(DbFault {
-        side: Side::Old,
-        line: row.line,
-        kind: Kind::Read,
-    });
     for pace in &PACES {
         for once in [false, true] {
             let reel = reel_of(*pace, sound, once);
             let (entries, answer, reel) = read_whole(rt, reel, LIMITS, desk);
-            assert!(rt;
-                entries == row.entries && answer == wanted,
-                "{pace:?}, after {sound}: {answer:?}"
-            );
+            let right = wanted.is_given(entries, answer);
+            assert!(rt; right, "{pace:?}, after {sound}: {answer:?}");
             assert!(rt; reel.failures() == 1);
         }
     }
@@ -211,20 +83,17 @@ fn assert_fails<A: Allocator + Copy>(
 #[test]
 fn a_reel_that_fails_at_each_byte(rt: HostRuntime) {
     let mut desk = Desk::new(rt.alloc());
-    for row in &FAILURES {
-        for sound in row.least..row.most.saturating_add(1) {
-            assert_fails(&rt, &mut desk, row, sound);
+    for (least, most, entries, line) in &FAILURES {
+        let wanted = Wanted::new(*entries, *line, Some(Kind::Read));
+        for sound in *least..most.saturating_add(1) {
+            assert_fails(&rt, &mut desk, sound, wanted);
         }
     }
 }
 
 #[test]
 fn each_growth_refused_in_turn(rt: HostRuntime) {
-    let wanted = Wanted {
-        entries: 2,
-        line: 0,
-        fault: None,
-    };
+    let wanted = Wanted::new(2, 0, None);
     let refused = refuse_each(&rt, rt.alloc(), SOUND, wanted);
     assert!(rt; refused > 1 && refused < 1000, "{refused}");
 }

@@ -2,141 +2,52 @@
 use super::{LIMITS, Wanted, assert_read, read_whole};
 use crate::EndlessReel;
 use aide_db::{DbFaultKind as Kind, Desk, Limits};
-use std::test::Fail;
 
-/// A text that one byte follows for ever, and its fault.
-struct Endless {
-    text: &'static [u8],
-    byte: u8,
-    line: u64,
-    fault: Kind,
-}
-
-const ENDLESS: [Endless; 4] = [
-    Endless {
-        text: b"",
-        byte: b'x',
-        line: 1,
-        fault: Kind::LineTooLong,
-    },
-    Endless {
-        text: b"",
-        byte: b'\n',
-        line: 1_048_577,
-        fault: Kind::TooManyBytes,
-    },
-    Endless {
-        text: b"@@begin_db\n@@db_spec name size\n/",
-        byte: b'a',
-        line: 3,
-        fault: Kind::LineTooLong,
-    },
-    Endless {
-        text: b"@@begin_db\n@@db_spec name size\n@@end_db\n",
-        byte: b'x',
-        line: 4,
-        fault: Kind::TooManyBytes,
-    },
+/// A text that one byte follows for ever, and the line and the kind of its fault.
+const ENDLESS: [(&[u8], u8, u64, Kind); 4] = [
+    (b"", b'x', 1, Kind::LineTooLong),
+    (b"", b'\n', 1_048_577, Kind::TooManyBytes),
+    (
+        b"@@begin_db\n@@db_spec name size\n/",
+        b'a',
+        3,
+        Kind::LineTooLong,
+    ),
+    (
+        b"@@begin_db\n@@db_spec name size\n@@end_db\n",
+        b'x',
+        4,
+        Kind::TooManyBytes,
+    ),
 ];
 
 #[test]
 fn bytes_without_end(rt: HostRuntime) {
-    for row in &ENDLESS {
-        let wanted = Wanted {
-            entries: 0,
-            line: row.line,
-            fault: Some(row.fault),
-        };
+    for (text, byte, line, fault) in &ENDLESS {
+        let wanted = Wanted::new(0, *line, Some(*fault));
         let mut desk = Desk::new(rt.alloc());
-        let reel = EndlessReel::new(row.text, row.byte);
-        let (entries, answer, _) = read_whole(&rt, reel, LIMITS, &mut desk);
-        assert!(rt; entries == 0 && answer == wanted.answer(), "{answer:?}");
+        let (entries, answer, _) = read_whole(
+            &rt,
+            EndlessReel::new(text, *byte),
+            LIMITS,
+            &mut desk,
+        );
+        assert!(rt; wanted.is_given(entries, answer), "{answer:?}");
         assert!(rt; desk.peak() <= 65_536);
     }
 }
 
-#[test]
-fn twice_as_many_bytes_as_the_limit(rt: HostRuntime) -> Result<(), Fail> {
-    let mut desk = Desk::new(rt.alloc());
-    for row in &ENDLESS {
-        let mut text = Vec::from_slice(rt.alloc(), row.text)?;
-        text.resize(2_097_152, row.byte)?;
-        let wanted = Wanted {
-            entries: 0,
-            line: row.line,
-            fault: Some(row.fault),
-        };
-        assert_read(&rt, &mut desk, &text, LIMITS, wanted);
-    }
-    Ok(())
-}
-
-/// A text of three lines of 10, 19 and 4 bytes and an end line, under these limits.
-struct Limited {
-    line: u32,
-    bytes: u64,
-    entries: u64,
-    at: u64,
-    fault: Option<Kind>,
-}
-
-const LIMITED: [Limited; 8] = [
-    Limited {
-        line: 19,
-        bytes: 45,
-        entries: 1,
-        at: 0,
-        fault: None,
-    },
-    Limited {
-        line: 19,
-        bytes: 44,
-        entries: 1,
-        at: 4,
-        fault: Some(Kind::TooManyBytes),
-    },
-    Limited {
-        line: 19,
-        bytes: 36,
-        entries: 1,
-        at: 4,
-        fault: Some(Kind::TooManyBytes),
-    },
-    Limited {
-        line: 19,
-        bytes: 35,
-        entries: 0,
-        at: 3,
-        fault: Some(Kind::TooManyBytes),
-    },
-    Limited {
-        line: 19,
-        bytes: 1,
-        entries: 0,
-        at: 1,
-        fault: Some(Kind::TooManyBytes),
-    },
-    Limited {
-        line: 18,
-        bytes: 45,
-        entries: 0,
-        at: 2,
-        fault: Some(Kind::LineTooLong),
-    },
-    Limited {
-        line: 18,
-        bytes: 30,
-        entries: 0,
-        at: 2,
-        fault: Some(Kind::LineTooLong),
-    },
-    Limited {
-        line: 18,
-        bytes: 29,
-        entries: 0,
-        at: 2,
-        fault: Some(Kind::TooManyBytes),
-    },
+/// Limits on the lines and the bytes of a text of three lines of 10, 19 and 4 bytes and an end line, and what a cursor
+/// returns for it.
+const LIMITED: [(u32, u64, u64, u64, Option<Kind>); 8] = [
+    (19, 45, 1, 0, None),
+    (19, 44, 1, 4, Some(Kind::TooManyBytes)),
+    (19, 36, 1, 4, Some(Kind::TooManyBytes)),
+    (19, 35, 0, 3, Some(Kind::TooManyBytes)),
+    (19, 1, 0, 1, Some(Kind::TooManyBytes)),
+    (18, 45, 0, 2, Some(Kind::LineTooLong)),
+    (18, 30, 0, 2, Some(Kind::LineTooLong)),
+    (18, 29, 0, 2, Some(Kind::TooManyBytes)),
 ];
 
 #[test]
@@ -144,17 +55,13 @@ fn limits_of_a_line_and_of_a_text(rt: HostRuntime) {
     let mut desk = Desk::new(rt.alloc());
     let mut tried = 0usize;
     let text = b"@@begin_db\n@@db_spec name size\n/a 1\n@@end_db\n";
-    for row in &LIMITED {
+    for (line, bytes, entries, at, fault) in &LIMITED {
         let limits = Limits {
-            line: row.line,
-            bytes: row.bytes,
-        };
-        let wanted = Wanted {
-            entries: row.entries,
-            line: row.at,
-            fault: row.fault,
+            line: *line,
+            bytes: *bytes,
         };
         if limits.line >= 14 && limits.bytes < 1000 {
+            let wanted = Wanted::new(*entries, *at, *fault);
             assert_read(&rt, &mut desk, text, limits, wanted);
             tried = tried.saturating_add(1);
         }

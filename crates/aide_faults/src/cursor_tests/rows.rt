@@ -5,356 +5,182 @@ use std::alloc::Global;
 use std::process::Abort;
 use std::test::Fail;
 
-/// A text, and what a cursor returns for it.
-struct Row {
-    text: &'static [u8],
-    entries: u64,
-    line: u64,
-    fault: Option<Kind>,
-}
+/// A text, the number of its entries before its fault, and the line and the kind of the fault.
+type Faulty = (&'static [u8], u64, u64, Kind);
 
-const FORM: [Row; 21] = [
-    Row {
-        text: b"",
-        entries: 0,
-        line: 1,
-        fault: Some(Kind::NoBegin),
-    },
-    Row {
-        text: b"# a\n\n \t\n",
-        entries: 0,
-        line: 4,
-        fault: Some(Kind::NoBegin),
-    },
-    Row {
-        text: b"\x1f\x8b\x08\x00\n",
-        entries: 0,
-        line: 1,
-        fault: Some(Kind::NoBegin),
-    },
-    Row {
-        text: b"@@db_spec name\n@@begin_db\n",
-        entries: 0,
-        line: 1,
-        fault: Some(Kind::NoBegin),
-    },
-    Row {
-        text: b"@@end_db\n",
-        entries: 0,
-        line: 1,
-        fault: Some(Kind::NoBegin),
-    },
-    Row {
-        text: b"@@begin_db",
-        entries: 0,
-        line: 2,
-        fault: Some(Kind::NoEnd),
-    },
-    Row {
-        text: b"@@begin_db\n@@begin_db\n",
-        entries: 0,
-        line: 2,
-        fault: Some(Kind::BadDirective),
-    },
-    Row {
-        text: b"@@begin_db\n/a\n",
-        entries: 0,
-        line: 2,
-        fault: Some(Kind::NoSpec),
-    },
-    Row {
-        text: b"@@begin_db\n@@end_db\n",
-        entries: 0,
-        line: 2,
-        fault: Some(Kind::NoSpec),
-    },
-    Row {
-        text: b"@@begin_db\n@@db_spec\n",
-        entries: 0,
-        line: 2,
-        fault: Some(Kind::BadSpec),
-    },
-    Row {
-        text: b"@@begin_db\n@@db_spec size\n",
-        entries: 0,
-        line: 2,
-        fault: Some(Kind::BadSpec),
-    },
-    Row {
-        text: b"@@begin_db\n@@db_spec name name\n",
-        entries: 0,
-        line: 2,
-        fault: Some(Kind::BadSpec),
-    },
-    Row {
-        text: b"@@begin_db\n@@db_spec name size size\n",
-        entries: 0,
-        line: 2,
-        fault: Some(Kind::BadSpec),
-    },
-    Row {
-        text: b"@@begin_db\n@@db_spec name size\n@@db_spec name\n",
-        entries: 0,
-        line: 3,
-        fault: Some(Kind::BadDirective),
-    },
-    Row {
-        text: b"@@begin_db\n@@db_spec name size\n@@foo\n@@end_db\n",
-        entries: 0,
-        line: 3,
-        fault: Some(Kind::BadDirective),
-    },
-    Row {
-        text: b"@@begin_db\n@@db_spec name\n/a\n@@end_dbx\n",
-        entries: 1,
-        line: 4,
-        fault: Some(Kind::BadDirective),
-    },
-    Row {
-        text: b"@@begin_db\n@@db_spec name size\n/a 1\n",
-        entries: 1,
-        line: 4,
-        fault: Some(Kind::NoEnd),
-    },
-    Row {
-        text: b"@@begin_db\n@@db_spec name size\n/a 1\n@@end_db",
-        entries: 1,
-        line: 0,
-        fault: None,
-    },
-    Row {
-        text: b"@@begin_db\n@@db_spec name size\n@@end_db\n",
-        entries: 0,
-        line: 0,
-        fault: None,
-    },
-    Row {
-        text: b"# a\n@@begin_db x y\n\n@@db_spec foo name foo\n#/a\n- /a +\n@@end_db z\n@@begin_db\n\xff",
-        entries: 1,
-        line: 0,
-        fault: None,
-    },
-    Row {
-        text: b"\t@@begin_db \n @@db_spec\tname \t size\n\t /a \t 1\t\n \n # b\n@@end_db\n",
-        entries: 1,
-        line: 0,
-        fault: None,
-    },
+const WITHOUT_COLUMNS: [Faulty; 10] = [
+    (b"", 0, 1, Kind::NoBegin),
+    (b"# a\n\n \t\n", 0, 4, Kind::NoBegin),
+    (b"\x1f\x8b\x08\x00\n", 0, 1, Kind::NoBegin),
+    (b"@@db_spec name\n@@begin_db\n", 0, 1, Kind::NoBegin),
+    (b"@@end_db\n", 0, 1, Kind::NoBegin),
+    (b"@@begin_db", 0, 2, Kind::NoEnd),
+    (b"@@begin_db\n@@begin_db\n", 0, 2, Kind::BadDirective),
+    (b"@@begin_db\n/a\n", 0, 2, Kind::NoSpec),
+    (b"@@begin_db\n@@end_db\n", 0, 2, Kind::NoSpec),
+    (b"@@begin_db\n@@db_spec\n", 0, 2, Kind::BadSpec),
 ];
 
-const ENTRIES: [Row; 23] = [
-    Row {
-        text: b"@@begin_db\n@@db_spec name size\n/a\n",
-        entries: 0,
-        line: 3,
-        fault: Some(Kind::FieldCount),
-    },
-    Row {
-        text: b"@@begin_db\n@@db_spec name size\n/a 1 2\n",
-        entries: 0,
-        line: 3,
-        fault: Some(Kind::FieldCount),
-    },
-    Row {
-        text: b"@@begin_db\n@@db_spec name size\na 1\n",
-        entries: 0,
-        line: 3,
-        fault: Some(Kind::BadName),
-    },
-    Row {
-        text: b"@@begin_db\n@@db_spec name size\na x\n",
-        entries: 0,
-        line: 3,
-        fault: Some(Kind::BadName),
-    },
-    Row {
-        text: b"@@begin_db\n@@db_spec name size\na\n",
-        entries: 0,
-        line: 3,
-        fault: Some(Kind::FieldCount),
-    },
-    Row {
-        text: b"@@begin_db\n@@db_spec name size\n%2 1\n",
-        entries: 0,
-        line: 3,
-        fault: Some(Kind::BadName),
-    },
-    Row {
-        text: b"@@begin_db\n@@db_spec name size\n%61 1\n",
-        entries: 0,
-        line: 3,
-        fault: Some(Kind::BadName),
-    },
-    Row {
-        text: b"@@begin_db\n@@db_spec name size\n%2Fa 1\n@@end_db\n",
-        entries: 1,
-        line: 0,
-        fault: None,
-    },
-    Row {
-        text: b"@@begin_db\n@@db_spec name size\n/a 1\n/a x\n",
-        entries: 1,
-        line: 4,
-        fault: Some(Kind::OutOfOrder),
-    },
-    Row {
-        text: b"@@begin_db\n@@db_spec name size\n/%61 1\n/a 1\n",
-        entries: 1,
-        line: 4,
-        fault: Some(Kind::OutOfOrder),
-    },
-    Row {
-        text: b"@@begin_db\n@@db_spec name\n/b\n/c\n/d\n/a\n@@end_db\n",
-        entries: 3,
-        line: 6,
-        fault: Some(Kind::OutOfOrder),
-    },
-    Row {
-        text: b"@@begin_db\n@@db_spec name size\n/a 1\n/a-b 1\n/a/b 1\n@@end_db\n",
-        entries: 2,
-        line: 5,
-        fault: Some(Kind::OutOfOrder),
-    },
-    Row {
-        text: b"@@begin_db\n@@db_spec name size\n/ 1\n// 1\n/a 1\n/a/ 1\n/a/b 1\n/a-b 1\n@@end_db\n",
-        entries: 6,
-        line: 0,
-        fault: None,
-    },
-    Row {
-        text: b"@@begin_db\n@@db_spec name size\n/a x\n",
-        entries: 0,
-        line: 3,
-        fault: Some(Kind::BadNumber { column: 2 }),
-    },
-    Row {
-        text: b"@@begin_db\n@@db_spec name size\n/a 1\n/b 1\n/c 1\n/d 1\n/e 1\n/f 1\n/g x\n",
-        entries: 6,
-        line: 9,
-        fault: Some(Kind::BadNumber { column: 2 }),
-    },
-    Row {
-        text: b"@@begin_db\n@@db_spec size name\n1 /a\n+1 /b\n",
-        entries: 1,
-        line: 4,
-        fault: Some(Kind::BadNumber { column: 1 }),
-    },
-    Row {
-        text: b"@@begin_db\n@@db_spec name attr\n/a -0\n/b -1\n",
-        entries: 1,
-        line: 4,
-        fault: Some(Kind::BadNumber { column: 2 }),
-    },
-    Row {
-        text: b"@@begin_db\n@@db_spec name md5 mtime size\n/a 0 0 1\n/b 0 x! x\n",
-        entries: 1,
-        line: 4,
-        fault: Some(Kind::BadTime { column: 3 }),
-    },
-    Row {
-        text: b"@@begin_db\n@@db_spec name md5 mtime size\n/a 0 0 1\n/b AAAA x! 1\n",
-        entries: 1,
-        line: 4,
-        fault: Some(Kind::BadDigest { column: 2 }),
-    },
-    Row {
-        text: b"@@begin_db\n@@db_spec name attr size\n/a 0 x\n",
-        entries: 0,
-        line: 3,
-        fault: Some(Kind::BadNumber { column: 3 }),
-    },
-    Row {
-        text: b"@@begin_db\n@@db_spec name foo bar\n/a x y\n/b  \t- +\n@@end_db\n",
-        entries: 2,
-        line: 0,
-        fault: None,
-    },
-    Row {
-        text: b"@@begin_db\n@@db_spec acl name\n#x /a\nx /b\n@@end_db\n",
-        entries: 1,
-        line: 0,
-        fault: None,
-    },
-    Row {
-        text: b"@@begin_db\n@@db_spec size name\n-0 /a\n007 /b\n18446744073709551615 /c\n@@end_db",
-        entries: 3,
-        line: 0,
-        fault: None,
-    },
+/// What follows the first line and the word of the second one.
+const WITH_COLUMNS: [Faulty; 25] = [
+    (b"size\n", 0, 2, Kind::BadSpec),
+    (b"name name\n", 0, 2, Kind::BadSpec),
+    (b"name size size\n", 0, 2, Kind::BadSpec),
+    (b"name size\n@@db_spec name\n", 0, 3, Kind::BadDirective),
+    (b"name size\n@@foo\n@@end_db\n", 0, 3, Kind::BadDirective),
+    (b"name\n/a\n@@end_dbx\n", 1, 4, Kind::BadDirective),
+    (b"name size\n/a 1\n", 1, 4, Kind::NoEnd),
+    (b"name size\n/a\n", 0, 3, Kind::FieldCount),
+    (b"name size\n/a 1 2\n", 0, 3, Kind::FieldCount),
+    (b"name size\na 1\n", 0, 3, Kind::BadName),
+    (b"name size\na x\n", 0, 3, Kind::BadName),
+    (b"name size\na\n", 0, 3, Kind::FieldCount),
+    (b"name size\n%2 1\n", 0, 3, Kind::BadName),
+    (b"name size\n%61 1\n", 0, 3, Kind::BadName),
+    (b"name size\n/a 1\n/a x\n", 1, 4, Kind::OutOfOrder),
+    (b"name size\n/%61 1\n/a 1\n", 1, 4, Kind::OutOfOrder),
+    (b"name\n/b\n/c\n/d\n/a\n@@end_db\n", 3, 6, Kind::OutOfOrder),
+    (
+        b"name size\n/a 1\n/a-b 1\n/a/b 1\n@@end_db\n",
+        2,
+        5,
+        Kind::OutOfOrder,
+    ),
+    (b"name size\n/a x\n", 0, 3, Kind::BadNumber { column: 2 }),
+    (
+        b"name size\n/a 1\n/b 1\n/c 1\n/d 1\n/e 1\n/f 1\n/g x\n",
+        6,
+        9,
+        Kind::BadNumber { column: 2 },
+    ),
+    (
+        b"size name\n1 /a\n+1 /b\n",
+        1,
+        4,
+        Kind::BadNumber { column: 1 },
+    ),
+    (
+        b"name attr\n/a -0\n/b -1\n",
+        1,
+        4,
+        Kind::BadNumber { column: 2 },
+    ),
+    (
+        b"name md5 mtime size\n/a 0 0 1\n/b 0 x! x\n",
+        1,
+        4,
+        Kind::BadTime { column: 3 },
+    ),
+    (
+        b"name md5 mtime size\n/a 0 0 1\n/b AAAA x! 1\n",
+        1,
+        4,
+        Kind::BadDigest { column: 2 },
+    ),
+    (
+        b"name attr size\n/a 0 x\n",
+        0,
+        3,
+        Kind::BadNumber { column: 3 },
+    ),
 ];
 
-/// Checks each row at each pace, and refuses each of its allocations.
-fn assert_rows(rt: &impl Abort, alloc: Global, rows: &[Row]) {
+/// Texts without a fault, and the number of their entries.
+const SOUND: [(&[u8], u64); 9] = [
+    (b"@@begin_db\n@@db_spec name size\n/a 1\n@@end_db", 1),
+    (b"@@begin_db\n@@db_spec name size\n@@end_db\n", 0),
+    (
+        b"# a\n@@begin_db x y\n\n@@db_spec foo name foo\n#/a\n- /a +\n@@end_db z\n@@begin_db\n\xff",
+        1,
+    ),
+    (
+        b"\t@@begin_db \n @@db_spec\tname \t size\n\t /a \t 1\t\n \n # b\n@@end_db\n",
+        1,
+    ),
+    (b"@@begin_db\n@@db_spec name size\n%2Fa 1\n@@end_db\n", 1),
+    (
+        b"@@begin_db\n@@db_spec name size\n/ 1\n// 1\n/a 1\n/a/ 1\n/a/b 1\n/a-b 1\n@@end_db\n",
+        6,
+    ),
+    (
+        b"@@begin_db\n@@db_spec name foo bar\n/a x y\n/b  \t- +\n@@end_db\n",
+        2,
+    ),
+    (
+        b"@@begin_db\n@@db_spec acl name\n#x /a\nx /b\n@@end_db\n",
+        1,
+    ),
+    (
+        b"@@begin_db\n@@db_spec size name\n-0 /a\n007 /b\n18446744073709551615 /c\n@@end_db",
+        3,
+    ),
+];
+
+/// Checks a text at each pace, and refuses each of its allocations.
+fn assert_row(rt: &impl Abort, alloc: Global, text: &[u8], wanted: Wanted) {
     let mut desk = Desk::new(alloc);
-    for row in rows {
-        let wanted = Wanted {
-            entries: row.entries,
-            line: row.line,
-            fault: row.fault,
-        };
-        assert_read(rt, &mut desk, row.text, LIMITS, wanted);
-        let _ = refuse_each(rt, alloc, row.text, wanted);
-    }
+    assert_read(rt, &mut desk, text, LIMITS, wanted);
+    let _ = refuse_each(rt, alloc, text, wanted);
 }
 
 #[test]
 fn forms_of_a_database(rt: HostRuntime) {
-    assert_rows(&rt, rt.alloc(), &FORM);
+    for (text, entries, line, kind) in &WITHOUT_COLUMNS {
+        let wanted = Wanted::new(*entries, *line, Some(*kind));
+        assert_row(&rt, rt.alloc(), text, wanted);
+    }
+    for (text, entries) in &SOUND {
+        assert_row(&rt, rt.alloc(), text, Wanted::new(*entries, 0, None));
+    }
 }
 
 #[test]
-fn forms_of_an_entry(rt: HostRuntime) {
-    assert_rows(&rt, rt.alloc(), &ENTRIES);
+fn forms_of_an_entry(rt: HostRuntime) -> Result<(), Fail> {
+    for (rest, entries, line, kind) in &WITH_COLUMNS {
+        let mut text = Vec::from_slice(rt.alloc(), b"@@begin_db\n@@db_spec ")?;
+        text.extend_from_slice(rest)?;
+        let wanted = Wanted::new(*entries, *line, Some(*kind));
+        assert_row(&rt, rt.alloc(), &text, wanted);
+    }
+    Ok(())
 }
 
-/// A text under a limit on its lines, and what a cursor returns for it.
-struct Limited {
-    most: u32,
-    text: &'static [u8],
-    entries: u64,
-    line: u64,
-    fault: Option<Kind>,
-}
-
-const LIMITED: [Limited; 3] = [
-    Limited {
-        most: 30,
-        text: b"@@begin_db\n@@db_spec name size\n/aaaaaaaaaaaaaaaaaaaaaaaaaaa 1\n@@end_db\n",
-        entries: 1,
-        line: 0,
-        fault: None,
-    },
-    Limited {
-        most: 30,
-        text: b"@@begin_db\n@@db_spec name size\n/aaaaaaaaaaaaaaaaaaaaaaaaaaaa 1\n@@end_db\n",
-        entries: 0,
-        line: 3,
-        fault: Some(Kind::LineTooLong),
-    },
-    Limited {
-        most: 14,
-        text: b"@@begin_db\n@@db_spec name\n/a\n@@end_db and more than 14 bytes\n",
-        entries: 1,
-        line: 4,
-        fault: Some(Kind::LineTooLong),
-    },
+/// A limit on lines, a text, and what a cursor returns for it.
+const LIMITED: [(u32, &[u8], u64, u64, Option<Kind>); 3] = [
+    (
+        30,
+        b"@@begin_db\n@@db_spec name size\n/aaaaaaaaaaaaaaaaaaaaaaaaaaa 1\n@@end_db\n",
+        1,
+        0,
+        None,
+    ),
+    (
+        30,
+        b"@@begin_db\n@@db_spec name size\n/aaaaaaaaaaaaaaaaaaaaaaaaaaaa 1\n@@end_db\n",
+        0,
+        3,
+        Some(Kind::LineTooLong),
+    ),
+    (
+        14,
+        b"@@begin_db\n@@db_spec name\n/a\n@@end_db and more than 14 bytes\n",
+        1,
+        4,
+        Some(Kind::LineTooLong),
+    ),
 ];
 
 #[test]
 fn lines_about_their_limit(rt: HostRuntime) {
     let mut desk = Desk::new(rt.alloc());
-    for row in &LIMITED {
+    for (line, text, entries, at, fault) in &LIMITED {
         let limits = Limits {
-            line: row.most,
+            line: *line,
             bytes: 1_048_576,
         };
-        let wanted = Wanted {
-            entries: row.entries,
-            line: row.line,
-            fault: row.fault,
-        };
         if limits.line >= 14 {
-            assert_read(&rt, &mut desk, row.text, limits, wanted);
+            let wanted = Wanted::new(*entries, *at, *fault);
+            assert_read(&rt, &mut desk, text, limits, wanted);
         }
     }
 }
@@ -366,18 +192,10 @@ fn as_many_columns_as_there_may_be(rt: HostRuntime) -> Result<(), Fail> {
     for _ in 0..63 {
         text.extend_from_slice(b" x")?;
     }
-    let sound = Wanted {
-        entries: 0,
-        line: 3,
-        fault: Some(Kind::NoEnd),
-    };
+    let sound = Wanted::new(0, 3, Some(Kind::NoEnd));
     assert_read(&rt, &mut desk, &text, LIMITS, sound);
     text.extend_from_slice(b" x")?;
-    let over = Wanted {
-        entries: 0,
-        line: 2,
-        fault: Some(Kind::BadSpec),
-    };
+    let over = Wanted::new(0, 2, Some(Kind::BadSpec));
     assert_read(&rt, &mut desk, &text, LIMITS, over);
     Ok(())
 }
