@@ -30,7 +30,7 @@ BLANKS_THAT_ARE_LETTERS = "\u115f\u1160\u2800\u3164\ufe0f\uffa0"
 LABELS = {word_of(label): label for label in FORMS}
 PAIRS = 200 if os.environ.get(QUICK) else 400
 # What a line has beside what is proved.
-ADDED = {"old_text", "new_text", "standing", "severity", "package", "standings"}
+ADDED = {"standing", "severity", "package", "standings"}
 # What would make markup, or code, of a text.
 MARKUP = (
     "innerHTML outerHTML insertAdjacentHTML document.write eval( setTimeout(' .href .src".split()
