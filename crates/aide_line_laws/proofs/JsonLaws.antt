@@ -16,7 +16,7 @@ use Rattle.aide_merge.specs.Asked.{Asked}
 use Rattle.aide_line_run.specs.ChangeLines.{change_line, change_lines, listed_changes, listed_line}
 use Rattle.aide_merge.specs.Compare.{changes}
 use Rattle.aide_line_run.specs.LineCounts.{line_counts, status_by}
-use Rattle.aide_line_run.specs.LinesRead.{read_of}
+use Rattle.aide_line_run.specs.Lines.{read_of}
 use Rattle.aide_report.specs.Runs.{report_over}
 use Rattle.aide_merge.specs.Said.{all_listed, is_in}
 use Rattle.aide_merge.specs.Seen.{SinkSeen}

@@ -7,7 +7,7 @@ use Rattle.aide_line_run.specs.ChangeLines.{Accounts, listed_changes, widest}
 use Rattle.aide_merge.specs.Compare.{changes}
 use Rattle.aide_merge.specs.Said.{PathChange, letters_of, shows_at}
 use Rattle.aide_line_run.specs.LineCounts.{line_counts, status_by}
-use Rattle.aide_line_run.specs.LinesRead.{read_of}
+use Rattle.aide_line_run.specs.Lines.{read_of}
 use Rattle.aide_line_run.specs.Lines.{by_texts}
 use Rattle.aide_line_run.specs.Listed.{ListRead}
 use Rattle.aide_line_laws.specs.Field.{Field}

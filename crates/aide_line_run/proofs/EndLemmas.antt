@@ -16,7 +16,7 @@ use Rattle.aide_merge.specs.Asked.{Asked}
 use Rattle.aide_line_run.specs.ChangeLines.{change_lines}
 use Rattle.aide_merge.specs.Said.{PathChange}
 use Rattle.aide_line_run.specs.LineCounts.{line_counts}
-use Rattle.aide_line_run.specs.LineRuns.{line_outcome}
+use Rattle.aide_line_run.specs.LineCounts.{line_outcome}
 use Rattle.aide_report.specs.Runs.{report_over}
 use Rattle.aide_merge.specs.Seen.{Seen}
 use Rattle.aide_merge.specs.code.Merging.{pass_of}

@@ -7,7 +7,7 @@ use Rattle.aide_db.specs.declared.limits.Limits.{Limits}
 use Rattle.aide_db.specs.declared.reel.Reel.{Ghosts as Reels}
 use Rattle.aide_merge.specs.Asked.{Asked}
 use Rattle.aide_line_run.specs.LineCounts.{account_count, entry_count}
-use Rattle.aide_line_run.specs.LineRuns.{line_outcome}
+use Rattle.aide_line_run.specs.LineCounts.{line_outcome}
 use Rattle.aide_line_run.specs.Stops.{KeepsUnopened}
 use Rattle.aide_merge.specs.RunFaults.{CountsWriteFault, HasWrittenIfAny, IsCaused}
 use Rattle.aide_merge.specs.Seen.{Seen, sink_seen}

@@ -7,7 +7,7 @@ use Rattle.aide_db.specs.declared.limits.Limits.{Limits}
 use Rattle.aide_db.specs.declared.reel.Reel.{Ghosts as Reels}
 use Rattle.aide_db.specs.declared.side.Side.TheVariants.{Old, New}
 use Rattle.aide_merge.specs.Asked.{Asked}
-use Rattle.aide_line_run.specs.LineRuns.{line_outcome}
+use Rattle.aide_line_run.specs.LineCounts.{line_outcome}
 use Rattle.aide_merge.specs.RightAnswer.{TellsSide}
 use Rattle.aide_merge.specs.RightAnswer.{Report}
 use Rattle.aide_merge.specs.Seen.{Seen}

@@ -10,7 +10,5 @@ pub mod ListView
 pub mod Sought
 pub mod ChangeLines
 pub mod LineCounts
-pub mod LineRuns
-pub mod LinesRead
 pub mod Stops
 pub mod code

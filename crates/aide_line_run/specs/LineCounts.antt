@@ -1,4 +1,4 @@
--- The numbers of the last line, over two maps.
+-- The numbers of the last line, over two maps, and what a run returns that has counted them.
 use Rattle.std.specs.Prelude.{ℕ, ◌+◌, ◌&&◌, Bool, true, false, Option, Some, None, List, length}
 use Rattle.std.specs.List.{filter}
 use Rattle.aide_line_text.specs.declared.account.Account.{Account}
@@ -11,6 +11,7 @@ use Rattle.aide_merge.specs.Compare.{changes}
 use Rattle.aide_merge.specs.Said.{PathChange}
 use Rattle.aide_merge.specs.Outcomes.{counts_of, status_of}
 use Rattle.aide_merge.specs.Said.{all_listed, is_in}
+use Rattle.aide_merge.specs.declared.outcome.Outcome.{Outcome}
 
 -- whether it is the old entry that accounts for a change
 abbrev pub is_old : Option Account → Bool
@@ -67,3 +68,14 @@ account_count counts =
 -- the status of a run that finds these counts
 abbrev pub status_by : LineCounts → ℕ
 status_by counts = status_of counts.added counts.removed counts.changed
+
+-- what a run returns that has counted these lines, with the skipped columns of each side
+abbrev pub line_outcome : LineCounts → (skipped_old skipped_new : ℕ) → Outcome
+line_outcome counts skipped_old skipped_new = record {
+  added = counts.added;
+  removed = counts.removed;
+  changed = counts.changed;
+  total = counts.total;
+  skipped_old = skipped_old;
+  skipped_new = skipped_new;
+}

@@ -3,24 +3,30 @@ use Rattle.std.specs.Prelude.{◌≡◌, ℕ, List, [], ◌++◌, Option, true}
 use Rattle.std.specs.FinMap.{get}
 use Rattle.std.specs.FinMap.Entries.{is_sorted}
 use Rattle.std.specs.Io.KnownBytes.{Appends}
+use Rattle.sha2.specs.Sha256.{sha256}
 use Rattle.aide_agreement.specs.Account.{same_as}
+use Rattle.aide_db.specs.Giving.{columns_of_text}
 use Rattle.aide_db.specs.Map.{Database, database_of}
 use Rattle.aide_entry.specs.Path.{path_cmp}
+use Rattle.aide_entry.specs.Skipped.{skipped_in}
 use Rattle.aide_line_text.specs.Frame.{ReadFacts, closing_line, opening_line}
 use Rattle.aide_line_text.specs.declared.counts.LineCounts.{LineCounts}
 use Rattle.aide_merge.specs.Asked.{Asked}
 use Rattle.aide_line_run.specs.ChangeLines.{Accounts, change_lines}
 use Rattle.aide_merge.specs.Compare.{changes}
 use Rattle.aide_merge.specs.Said.{PathChange}
-use Rattle.aide_line_run.specs.LineCounts.{account_count, entry_count, line_counts, status_by}
-use Rattle.aide_line_run.specs.LineRuns.{line_outcome}
-use Rattle.aide_line_run.specs.LinesRead.{read_of}
+use Rattle.aide_line_run.specs.LineCounts.{account_count, entry_count, line_counts, line_outcome}
+use Rattle.aide_line_run.specs.LineCounts.{status_by}
 use Rattle.aide_merge.specs.RightAnswer.{Report}
 use Rattle.aide_report.specs.Runs.{report_over}
 use Rattle.aide_merge.specs.declared.outcome.Outcome.{Outcome}
 use Rattle.aide_text.specs.Sent.{SendsPart}
 use Rattle.aide_line_run.specs.Listed.{Leaves, ListRead, account_by, leaves_between}
 use Rattle.aide_line_run.specs.Sought.{Accounted, accounted_lines, changes_of, sought_by}
+
+-- what the last line says about a database: the SHA-256 of its text, and the columns that were skipped
+abbrev pub read_of : List ℕ → ReadFacts
+read_of text = record { digest = sha256 text; skipped = skipped_in (columns_of_text text) }
 
 -- what the last line says about all four databases
 pub record PairFacts : Type 0 where

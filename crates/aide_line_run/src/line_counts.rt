@@ -1,6 +1,6 @@
 //! The numbers of the last line: how many lines there are, and what accounts for their changes.
 ghost use Rattle.std.specs.Prelude.{◌≡◌, ◌^◌};
-ghost use Rattle.aide_line_run.specs.LineRuns.{line_outcome};
+ghost use Rattle.aide_line_run.specs.LineCounts.{line_outcome};
 ghost use Rattle.aide_merge.specs.code.ChangeView.{change_of};
 ghost use Rattle.aide_line_run.specs.code.LineTally.{AreLinesBelow, with_account, with_entry};
 ghost use Rattle.aide_line_run.specs.code.LineTally.{with_kind};
