@@ -220,7 +220,7 @@ class InstallingTest(InstallTest):
             self.refuses("a program that is not there", folder, done, missing)
         done = self.install("--help")
         self.assertEqual((done.status, "--uninstall" in done.output_text), (0, True), done)
-        self.assertIn("13 minutes", done.output_text)
+        self.assertIn("17 minutes", done.output_text)
 
     def unbuilt(self) -> tuple[str, dict[str, str]]:
         """A copy in which nothing is built, and an environment with an rt that notes its calls."""
@@ -283,7 +283,7 @@ class InstallingTest(InstallTest):
                 os.utime(old, (1, 1))
             done = self.install("--destdir", folder, source=source, env=surroundings)
             self.assertEqual((done.status, self.built()), (0, wanted), done)
-            self.assertEqual("13 minutes" in done.error_text, bool(wanted), "it says how long")
+            self.assertEqual("17 minutes" in done.error_text, bool(wanted), "it says how long")
             steps = done.error_text.count("\n  1 of 5 crates proved, 0 min: aide_attr\n")
             self.assertEqual(steps, len(wanted), done)
         found = tree(os.path.join(folder, "usr/local"))
@@ -299,7 +299,7 @@ class InstallingTest(InstallTest):
         words = ["sh", script, "--output", self.path("unbuilt/out")]
         done = self.run_words(words, env=surroundings)
         self.assertEqual((done.status, os.path.exists(built)), (0, True), done)
-        self.assertIn("13 minutes", done.error_text)
+        self.assertIn("17 minutes", done.error_text)
         self.write("stubs/rt", "#!/bin/sh\nexit 1\n", 0o755)
         os.remove(built)
         unproved = self.path("unproved")
