@@ -16,8 +16,10 @@ what the headline claims about two databases:
 > hold more bytes of the databases than the longest line of each and one more
 > line that is no longer than these.
 
-You need not read the proof: the toolchain checks it. Only the meaning of
-arguments and configurations is not on this page.
+This is proved over devices whose bytes contracts see. A file of the machine is
+none of them: tests try the same code over files. You need not read the proof:
+the toolchain checks it. Only the meaning of arguments and configurations is not
+on this page.
 
 How to read a definition:
 
@@ -57,6 +59,7 @@ to read a definition. Read this page to know which changes are silent:
 > number of a line of the list exactly if that line leaves the change out.
 > No line ever says that anything else accounts for a change.
 
+This is proved over devices whose bytes contracts see, and tested over files.
 After any fault, and if the output fails, no last line has been written. So a
 reader never takes the lines for complete. [HEADLINE_LISTS.md](HEADLINE_LISTS.md)
 says when a line of a list leaves a change out, and what no list does.
