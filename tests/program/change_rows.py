@@ -16,8 +16,6 @@ OPTIONS = {
     "no-new-size": b"report_ignore_added_attrs=s\n",
     "no-old-size": b"report_ignore_removed_attrs=s\n",
     "no-mode-no-size": b"report_ignore_changed_attrs=p+s-s+s\n",
-    "no-sha3": b"report_ignore_changed_attrs=sha3_256\n",
-    "no-digest": b"report_ignore_changed_attrs=H\n",
     "only-sha3": b"report_ignore_changed_attrs=H-sha3_256\n",
     "no-new-sha256": b"report_ignore_added_attrs=sha256\n",
     "no-old-md5": b"report_ignore_removed_attrs=md5\n",
@@ -26,7 +24,6 @@ OPTIONS = {
     "force-L": b"report_force_attrs=L\n",
     "force-size": b"report_force_attrs=s\n",
     "force-others": b"report_force_attrs=u+ftype\n",
-    "minimal": b"report_level=minimal\n",
     "lists": b"report_level=list_entries\n",
     "more": b"report_level=added_removed_attributes\n",
     "entries": b"report_level=added_removed_entries\n",
@@ -37,7 +34,6 @@ OPTIONS = {
 TABLE = """\
 perm size|100644 1|100644 2|||Size|Size|f > .
 perm size|100644 1|100644 2|no-size||||
-perm size|100644 1|100644 2|no-size|force-size|||
 perm size|100644 1|100600 2|no-size|force-size|Perm|Size Perm|f : p
 perm size|100644 1|100600 2|no-size|force-size lists|Perm||f : p
 perm size|100644 2|100644 1||entries force-others|Size|Type Size|f < .
@@ -46,23 +42,17 @@ attr size|32 1|0 2|no-new-size no-size|more|Size|Size|? -
 attr size|0 1|32 2|no-old-size no-size|more|Size|Size|? +
 perm size uid|100644 1 7|120644 1 8|no-type||UID|UID|! = .u
 perm|100644|120644|no-type||||
-perm|100644|120644|no-type|minimal|||
-attr size|0 1|0 2||more|||
 attr size|32 1|0 1||more|Size|Size|? -
 perm size|100644 1|100600 2|own-groups|force-L|Size|Size|f > :
 perm size|100644 1|100600 2|no-mode-no-size||||
 md5 sha256|MD5 0|0 SHA256||more|MD5 SHA256|MD5 SHA256|?           +
 md5 sha256|MD5 0|0 SHA256|no-new-sha256|more|MD5|MD5|?           -
-md5 sha256|MD5 0|0 SHA256|||MD5 SHA256||?           +
 md5 sha256|MD5 0|0 SHA256|no-new-sha256 no-old-md5|more|||
 sha3_256|SHA256|OTHER256|||SHA3-256|SHA3-256|?           H
-sha3_256|SHA256|OTHER256|no-sha3|more|||
-sha3_256|SHA256|OTHER256|no-digest||||
 sha3_256|SHA256|OTHER256|only-sha3||SHA3-256|SHA3-256|?           H
 md5 sha3_256|MD5 0|MD5 SHA256||more|SHA3-256|SHA3-256|?           +
 perm size lcount|100644 1 1|100644 2 2|no-size||Linkcount|Linkcount|f : .      n
 lcount md5 sha256|1 MD5 0|2 0 SHA256|no-new-sha256 no-old-md5||Linkcount|Linkcount|?          n:
-lcount sha3_256|1 SHA256|2 OTHER256|no-sha3||Linkcount|Linkcount|?          n:
 """
 
 

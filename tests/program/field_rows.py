@@ -4,26 +4,13 @@
 # shows.
 NUMBERS = [
     (b"perm", b"37777777777", "Perm", "7777"),
-    (b"perm", b"100644", "Perm", "0644"),
     (b"perm", b"00001104755", "Perm", "4755"),
     (b"size", b"18446744073709551615", "Size", "18446744073709551615"),
     (b"size", b"-9223372036854775808", "Size", "-9223372036854775808"),
     (b"size", b"-0", "Size", "0"),
-    (b"size", b"007", "Size", "7"),
-    (b"size", b"-00000000000000000000000000012", "Size", "-12"),
-    (b"bcount", b"8", "Bcount", "8"),
     (b"uid", b"1000", "UID", "1000"),
-    (b"gid", b"-1", "GID", "-1"),
-    (b"inode", b"131", "Inode", "131"),
     (b"lcount", b"2", "Linkcount", "2"),
-    (b"mtime", b"LTU=", "Mtime", "-5"),
-    (b"mtime", b"-5", "Mtime", "-5"),
-    (b"mtime", b"0", "Mtime", "0"),
-    (b"mtime", b"MTA=", "Mtime", "10"),
     (b"atime", b"10", "Atime", "10"),
-    (b"ctime", b"0010", "Ctime", "10"),
-    (b"mtime", b"MTcwMDAwMDAwMA==", "Mtime", "1700000000"),
-    (b"mtime", b"MDAxMA==", "Mtime", "10"),
     (b"mtime", b"MDAw" * 10 + b"MDEw", "Mtime", "10"),
 ]
 
@@ -45,11 +32,8 @@ TYPES = [
 LINKS = [
     (b"0", b""),
     (b"0-", b""),
-    (b"00", b"0"),
     (b"00-", b"0-"),
-    (b"000", b"00"),
     (b"%30", b"0"),
-    (b"0x", b"0x"),
     (b"0-x", b"0-x"),
     (b"../x%20y%zz%", b"../x y%zz%"),
     (b"00%41", b"0A"),
@@ -59,11 +43,7 @@ LINKS = [
 DIGESTS = [
     (b"md5", b"1B2M2Y8AsgTpgAmY7PhCfg==", 16, 0xD4, 0x7E),
     (b"sha256", b"47DEQpj8HBSa+/TImW+5JCeuQeRkm5NMpJWZG3hSuFU=", 32, 0xE3, 0x55),
-    (b"sha3_256", b"47DEQpj8HBSa+/TImW+5JCeuQeRkm5NMpJWZG3hSuFU=", 32, 0xE3, 0x55),
-    (b"crc32", b"q6urqw==", 4, 0xAB, 0xAB),
-    (b"haval", b"/w==", 1, 0xFF, 0xFF),
     (b"tiger", b"AAAB", 3, 0, 1),
-    (b"sha1", b"2jmj7l5rSw0yVb/vlWAYkK/YBwk=", 20, 0xDA, 0x09),
     (
         b"sha512",
         b"z4PhNX7vuL3xVChQ1m2AB9Yg5AULVxXcg/SpIdNs6c5H0NE8XYXysP+DGNKHfuwvY7kxvUdBeoGlODJ6+SfaPg==",
@@ -71,24 +51,14 @@ DIGESTS = [
         0xCF,
         0x3E,
     ),
-    (
-        b"sha3_512",
-        b"pp9zzKI6msXItWfcGFp1bpfJghZP4lhZ4NHcwUdcgKYVshI68fX5TBHj6UAsOsVY9QAZnZW20+MBdYWGKB3NJg==",
-        64,
-        0xA6,
-        0x26,
-    ),
-    (b"stribog256", b"47DEQpj8HBSa+/TImW+5JCeuQeRkm5NMpJWZG3hSuFU=", 32, 0xE3, 0x55),
 ]
 
 # Paths: the field, and the path.
 NAMES = [
     (b"/x%2", b"/x%2"),
     (b"/x%252", b"/x%2"),
-    (b"/x%zz", b"/x%zz"),
     (b"/x%0Ay%zz", b"/x\ny%zz"),
     (b"%2fa%2Fb", b"/a/b"),
-    (b"/%2541", b"/%41"),
     (b"/%C3%a9\xff", b"/\xc3\xa9\xff"),
 ]
 
@@ -105,84 +75,36 @@ LACKING = [
 
 # Two fields of a column, and the attributes that have changed from the one to the other.
 PAIRS = [
-    (b"mtime", b"10", b"0010", []),
-    (b"mtime", b"10", b"MTA=", []),
     (b"mtime", b"10", b"11", ["Mtime"]),
-    (b"size", b"7", b"007", []),
-    (b"size", b"7", b"8", ["Size"]),
     (b"perm", b"100644", b"1100644", []),
     (b"perm", b"100644", b"100600", ["Perm"]),
     (b"perm", b"100644", b"120644", ["Type"]),
-    (
-        b"sha256",
-        b"AAAAAAAAAAAAAAAAAAAAAAAAAAAAAAAAAAAAAAAAAAA=",
-        b"AAAAAAAAAAAAAAAAAAAAAAAAAAAAAAAAAAAAAAAAAAE=",
-        ["SHA256"],
-    ),
     (b"sha256", b"AAAAAAAAAAAAAAAAAAAAAAAAAAAAAAAAAAAAAAAAAAA=", b"0", []),
-    (b"lname", b"0", b"0-", ["Lname"]),
-    (b"lname", b"00", b"%30", []),
     (b"lname", b"00-", b"%30-", []),
-    (b"lname", b"0x", b"0%78", []),
-    (b"lname", b"a%62", b"ab", []),
     (b"acl", b"x", b"%78", ["ACL"]),
     (b"acl", b"x", b"0", []),
-    (
-        b"sha3_256",
-        b"47DEQpj8HBSa+/TImW+5JCeuQeRkm5NMpJWZG3hSuFU=",
-        b"AAAAAAAAAAAAAAAAAAAAAAAAAAAAAAAAAAAAAAAAAAA=",
-        ["SHA3-256"],
-    ),
 ]
 
 # Fields that are refused, and why.
 REFUSED = [
     (b"perm", b"40000000000", "bad number"),
-    (b"perm", b"8", "bad number"),
     (b"perm", b"-1", "bad number"),
-    (b"perm", b"0o7", "bad number"),
-    (b"perm", b"x", "bad number"),
     (b"perm", b"100648", "bad number"),
     (b"size", b"18446744073709551616", "bad number"),
-    (b"size", b"-9223372036854775809", "bad number"),
     (b"size", b"+1", "bad number"),
-    (b"size", b"-", "bad number"),
-    (b"size", b"--1", "bad number"),
-    (b"size", b"x", "bad number"),
     (b"size", b"1x", "bad number"),
-    (b"size", b"1.0", "bad number"),
-    (b"size", b"0x1", "bad number"),
     (b"size", b"MTA=", "bad number"),
     (b"attr", b"-1", "bad number"),
-    (b"attr", b"18446744073709551616", "bad number"),
     (b"mtime", b"x!", "bad time"),
     (b"mtime", b"-", "bad time"),
-    (b"mtime", b"=", "bad time"),
-    (b"mtime", b"-x", "bad time"),
-    (b"mtime", b"1x", "bad time"),
     (b"mtime", b"MTA", "bad time"),
     (b"mtime", b"MTA==", "bad time"),
     (b"mtime", b"MDAw" * 15 + b"MDE=", "bad time"),
     (b"mtime", b"MTB=", "bad time"),
-    (b"mtime", b"TVRBPQ==", "bad time"),
-    (b"ctime", b"18446744073709551616", "bad time"),
     (b"sha256", b"AAAAAAAAAAAAAAAAAAAAAAAAAAAAAAAAAAAAAAAAAA==", "bad digest"),
-    (b"sha3_512", b"47DEQpj8HBSa+/TImW+5JCeuQeRkm5NMpJWZG3hSuFU=", "bad digest"),
-    (b"md5", b"1B2M2Y8AsgTpgAmY7PhCfh==", "bad digest"),
-    (b"md5", b"1B2M2Y8AsgTpgAmY7PhCfg", "bad digest"),
-    (b"md5", b"00", "bad digest"),
-    (b"sha3_256", b"0-", "bad digest"),
-    (b"crc32", b"!", "bad digest"),
     (b"crc32", b"1", "bad digest"),
-    (b"crc32", b"QQ", "bad digest"),
-    (b"crc32", b"AAA", "bad digest"),
     (b"crc32", b"AAB=", "bad digest"),
-    (b"crc32", b"====", "bad digest"),
-    (b"crc32", b"AAAA!", "bad digest"),
-    (b"crc32", b"A" * 92, "bad digest"),
     (b"sha256", b"A" * 43 + b"=A", "bad digest"),
-    (b"stribog256", b"AAAA", "bad digest"),
-    (b"sha512", b"AA==", "bad digest"),
     (b"stribog512", b"47DEQpj8HBSa+/TImW+5JCeuQeRkm5NMpJWZG3hSuFU=", "bad digest"),
 ]
 
@@ -199,12 +121,6 @@ ENTRIES = [
             "Lname": (b"", b""),
             "SHA256": (b"e3b0c44298fc1c149afbf4c8996fb92427ae41e4649b934ca495991b7852b855", b""),
         },
-    ),
-    (
-        b"@@begin_db\n@@db_spec name md5\n/a 1B2M2Y8AsgTpgAmY7PhCfg==\n@@end_db\n",
-        b"@@begin_db\n@@db_spec name md5 sha3_256\n"
-        b"/a 1B2M2Y8AsgTpgAmY7PhCfg== 47DEQpj8HBSa+/TImW+5JCeuQeRkm5NMpJWZG3hSuFU=\n@@end_db\n",
-        {"SHA3-256": (b"", b"e3b0c44298fc1c149afbf4c8996fb92427ae41e4649b934ca495991b7852b855")},
     ),
     (
         b"@@begin_db\n@@db_spec name attr size uid\n/a 32 7 5\n@@end_db\n",
