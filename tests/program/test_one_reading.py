@@ -1,5 +1,5 @@
-"""The program of lines opens and reads each database once: through FIFOs, broken databases, and
-databases that are replaced while they are read.
+"""The program of lines opens and reads each database once: through FIFOs, and databases that are
+replaced while they are read.
 
 After a fault the output is a beginning of the lines, and has no last line.
 """
@@ -7,48 +7,22 @@ from __future__ import annotations
 
 import functools
 import os
-import random
 import subprocess
 import threading
 import time
-from collections.abc import Callable, Sequence
+from collections.abc import Callable
 
-from tests.lib.answer import Answer, difference, run
-from tests.lib.program_test import new_seed, slow
-from tests.lib.tally import side_by_side
+from tests.lib.answer import Answer, run
+from tests.lib.program_test import slow
 from tests.oracle.files import wanted_lines
-from tests.program.random_texts.databases import broken
 from tests.program.real_files.folder import EMPTY, FILES, NEW, OLD, SKIPPING, Folder, names
 from tests.program.real_files.test_fifos import fed
-from tests.program.lines_program import LinesProgramTest, faults_of_lines
+from tests.program.lines_program import LinesProgramTest
 
-HEAD = b"@@begin_db\n@@db_spec name perm lname mtime\n"
-LONG = b"x" * 300  # So that some lines go out before most faults.
-COUNT = 120
-TRIALS = 280
-# What is done to a text that breaks it.
-WAYS = ("cut", "less", "more", "exchange", "name", "stray")
 RUNS = 60
 ENTRIES = 3000
 # So many bytes are in a pipe that nobody reads.
 PIPE = 1 << 16
-
-
-def text_of(pick: random.Random, later: int) -> list[bytes]:
-    """The lines of a database of links: some came, some went, and of some the target changed."""
-    lines = [HEAD[:-1]]
-    for number in range(COUNT):
-        target = pick.choice((b"", b"a")) if later else b""
-        if pick.random() < 0.9:
-            lines.append(b"/%04d 120777 %s%s %d" % (number, LONG, target, later))
-    return [*lines, b"@@end_db", b""]
-
-
-def broken_text(pick: random.Random, later: int) -> bytes:
-    """The text of a database, to which something is done now and then."""
-    lines = text_of(pick, later)
-    text = b"\n".join(lines)
-    return broken(pick, [], lines, text, pick.choice(WAYS)) if pick.random() < 0.4 else text
 
 
 def read_slowly(program: bytes, words: list[bytes], at_first: Callable[[], None]) -> Answer:
@@ -111,47 +85,6 @@ def resize(folder: Folder, name: str, text: bytes) -> None:
 
 
 class OneReadingTest(LinesProgramTest):
-    def faults_of(self, texts: Sequence[bytes | None]) -> tuple[Answer, list[str]]:
-        """The answer over these texts, and what is not as wanted of it: the report of two databases
-        ends alike."""
-        with Folder() as folder:
-            words = folder.put(texts)
-            answer = run(self.lines_program, words)
-            faults = difference(answer, wanted_lines(words)) + faults_of_lines(answer)
-            if len(texts) == 2:
-                report = run(self.program, words)
-                faults += difference(answer._replace(output=b""), report._replace(output=b""))
-        return answer, faults
-
-    def tried(self, label: str, texts: Sequence[Sequence[bytes | None]]) -> list[Answer]:
-        """The answers over many databases."""
-        answers: list[Answer] = []
-        for answer, faults in side_by_side(2, self.faults_of, texts):
-            self.add(f"{label}, trial {len(answers)}", faults)
-            answers.append(answer)
-        return answers
-
-    @slow
-    def test_broken(self) -> None:
-        """Pairs, half of them beside a trusted pair, of which any database is broken or missing."""
-        seed = new_seed()
-        texts: list[list[bytes | None]] = []
-        for number in range(TRIALS):
-            pick = random.Random(f"{seed} {number}")
-            texts.append([broken_text(pick, at % 2) for at in range(2 + number % 2 * 2)])
-            if pick.random() < 0.1:
-                texts[-1][pick.randrange(len(texts[-1]))] = None
-        answers = self.tried(f"seed {seed}", texts)
-        for answer, given in zip(answers, texts):
-            self.holds("no output without a database", None not in given or not answer.output)
-        for name in FILES:
-            words = b"aide: %s database:" % name.replace("_", " ").encode()
-            count = sum(answer.errors.startswith(words) for answer in answers)
-            self.holds("faults of " + name, count, count)
-        begun = sum(answer.status > 7 and answer.output != b"" for answer in answers)
-        self.holds("lines before a fault", begun > 20, begun)
-        self.holds("sound databases", sum(answer.status < 8 for answer in answers) > 20)
-
     def test_openings(self) -> None:
         """Through FIFOs that can be opened once. Another text at a second opening is never read."""
         other = EMPTY + b"other\n"
@@ -159,8 +92,6 @@ class OneReadingTest(LinesProgramTest):
             for label, texts in (
                 ("two databases", [OLD, NEW]),
                 ("two long databases", [names(6000), SKIPPING]),
-                ("two databases with a fault", [OLD, NEW[:-9]]),
-                ("four databases", [OLD, NEW, SKIPPING, NEW]),
                 ("four long databases", [OLD, names(6000), SKIPPING, names(6000)]),
                 ("four databases with a fault", [names(6000), NEW, OLD, OLD[:-9]]),
             ):

@@ -121,14 +121,7 @@ class DevicesTest(FolderTest):
         self.holds("writes of pages", is_good, (len(parts), len(want)))
 
     def test_files(self) -> None:
-        """Databases exchanged, missing, a folder, a device, the same file twice."""
-        for label, old, new, status in (
-            ("a pair", OLD, NEW, 7),
-            ("exchanged", NEW, OLD, 7),
-            ("the same twice", OLD, OLD, 0),
-        ):
-            self.folder.pair(old, new)
-            self.check_status(label, self.folder.words(), status)
+        """Files that are missing, a folder, a link to nowhere, a device."""
         for name in ("old", "new", "conf"):
             path = self.folder.at(name)
             for label, make, take_away in IN_PLACE_OF_A_FILE:

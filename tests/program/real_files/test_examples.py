@@ -5,7 +5,7 @@ import glob
 import os
 import re
 
-from tests.lib.answer import Answer, run
+from tests.lib.answer import run
 from tests.lib.program_test import ProgramTest
 from tests.oracle.configuration import LEVELS
 from tests.oracle.files import wanted
@@ -20,7 +20,6 @@ LABELS = {
     "changed": "Changed entries",
 }
 BOOLS = ["yes", "no"]
-HEAD = b"AIDE found differences between the two databases.\n"
 
 
 def words_for(folder: str, *more: bytes) -> list[bytes]:
@@ -66,12 +65,6 @@ def counted(output: bytes) -> dict[str, int | None]:
 
 
 class ExamplesTest(ProgramTest):
-    def test_made_by_hand(self) -> None:
-        answer = run(self.program, words_for(EXAMPLES))
-        self.check("examples", answer, Answer(HEAD, b"", 7))
-        answer = run(self.program, [b"-D"] + words_for(EXAMPLES)[1:])
-        self.check("examples, checked", answer, Answer(b"", b"", 0))
-
     def test_written_by_aide(self) -> None:
         """Databases that AIDE has written: its counts and status, nothing skipped, and the
         definitions' report at each level."""

@@ -23,9 +23,6 @@ CUTS = [
     (75, 5, b"wrong number of fields"),
     (81, 5, b"unexpected directive"),
 ]
-# Sizes of the two databases, about the ends of the blocks of SHA-256 and of what is read at a time.
-SIZES = [(41, 54), (55, 56), (63, 64), (65, 119), (120, 128), (4095, 4096), (4097, 8191)]
-SIZES += [(8192, 8193), (12288, 12289), (100000, 1000000)]
 
 
 def database(line: bytes, tail: bytes = b"@@end_db\n") -> bytes:
@@ -60,10 +57,3 @@ class LimitsTest(FolderTest):
         behind = b"@@end_db\n" + b"x" * 3 * LINE_LIMIT
         self.folder.pair(database(b"/a 1", behind), database(b"/a 1"))
         self.check_status("a long line behind the end", self.folder.words(), 0)
-
-    def test_digests(self) -> None:
-        """The digests are those of all bytes, also of those after the end line."""
-        empty = b"@@begin_db\n@@db_spec name size\n@@end_db\n"
-        for old, new in SIZES:
-            self.folder.pair(empty.ljust(old, b"o"), empty.ljust(new, b"n"))
-            self.check_status(f"{old} and {new} bytes", self.folder.words(), 0)

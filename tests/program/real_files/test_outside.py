@@ -10,7 +10,7 @@ from tests.lib.program_test import ProgramTest, slow
 from tests.lib.tally import side_by_side
 
 from .test_fifos import Feeder
-from .folder import NEW, OLD, Folder
+from .folder import NEW, Folder
 from .watch import Watch
 
 MEGABYTE, GIGABYTE = 2**20, 2**30
@@ -172,18 +172,6 @@ class OutsideTest(ProgramTest):
                 if not 0 < feeder.given < MOST_TAKEN:
                     faults.append("it took %d bytes" % feeder.given)
                 self.add("a line of 32 MB", faults)
-
-    def test_twenty_megabytes(self) -> None:
-        """A database of 20 MB, most of it comments, whose last entry is compared and whose whole is
-        hashed."""
-        comments = (b"#" * 999999 + b"\n") * 20
-        with Folder() as folder:
-            for old, new in ((OLD, NEW), (NEW, OLD)):
-                long = new[: -len(b"@@end_db\n")] + comments + b"/z 36 100644 1\n@@end_db\n"
-                folder.pair(old, long, b"report_level=database_attributes\n")
-                self.check("a new database of 20 MB", folder.run(self.program), folder.wanted())
-                folder.pair(long, old, b"report_level=database_attributes\n")
-                self.check("an old database of 20 MB", folder.run(self.program), folder.wanted())
 
     def test_large_files(self) -> None:
         """Sparse files that are larger than the memory, which are read whole or as far as a
