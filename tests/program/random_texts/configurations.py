@@ -9,6 +9,27 @@ from tests.program.configurations import refused
 
 VARIABLES = [b"A", b"B", b"LEVEL", b"V_1", b"x" * 64]
 OWN_GROUPS = [b"mine", b"times", b">", b"L", b"E", b"g1"]
+# Values of variables, lines that choose files or say nothing, and lines with variables.
+VALUES = b"minimal||summary|@@{A}|x @@{B} y|p+s|@@{NOPE}|yes|@@{A".split(b"|")
+WITHOUT_EFFECT_ON_REPORTS = (
+    b"|# comment|/etc R|!/tmp|=/x p|-x| \t|@@{NOPE}|@@{NOPE}# x|/@@{A}".split(b"|")
+)
+EXPANDED = [
+    b"@@{NOPE}report_grouped=no",
+    b"report_level = @@{NOPE}summary",
+    b"report_force_attrs = s@@{NOPE}+p",
+]
+OF_VARIABLES = [
+    b"report_level=@@{LEVEL}",
+    b"report_quiet=@@{A}",
+    b"@@{B}report_grouped=no",
+    b"report_force_attrs=@@{V_1}+s",
+]
+OPENINGS = b"@@ifdef |@@ifndef |@@if defined |@@if not defined |@@if\tnot  defined\t".split(b"|")
+# Words that are not understood behind a good command line; `PATH` stands for its configuration.
+BAD_WORDS = (
+    "-E|-D|extra|--help|-V|--limit x|-B||--|-B -x|-c PATH|--conf PATH|-A -|-A=|--compare=x|\xff"
+).split("|")
 BAD_LINES = refused.LINES + [
     b"@@define " + b"x" * 65 + b" 1",
     b"@@define A " + b"y" * 4097,
@@ -56,53 +77,13 @@ def random_line(pick: random.Random) -> bytes:
     if way < 0.65:
         return b"@@define LEVEL " + pick.choice(LEVELS).encode()
     if way < 0.75:
-        value = pick.choice(
-            [
-                b"minimal",
-                b"",
-                b"summary",
-                b"@@{A}",
-                b"x @@{B} y",
-                b"p+s",
-                b"@@{NOPE}",
-                b"yes",
-                b"@@{A",
-            ]
-        )
+        value = pick.choice(VALUES)
         return b"@@define " + pick.choice(VARIABLES) + b" " + value
     if way < 0.8:
         return b"@@undef " + pick.choice(VARIABLES)
     if way < 0.9:
-        return pick.choice(
-            [
-                b"",
-                b"# comment",
-                b"/etc R",
-                b"!/tmp",
-                b"=/x p",
-                b"-x",
-                b" \t",
-                b"@@{NOPE}",
-                b"@@{NOPE}# x",
-                b"/@@{A}",
-            ]
-        )
-    if way < 0.99:
-        return pick.choice(
-            [
-                b"@@{NOPE}report_grouped=no",
-                b"report_level = @@{NOPE}summary",
-                b"report_force_attrs = s@@{NOPE}+p",
-            ]
-        )
-    return pick.choice(
-        [
-            b"report_level=@@{LEVEL}",
-            b"report_quiet=@@{A}",
-            b"@@{B}report_grouped=no",
-            b"report_force_attrs=@@{V_1}+s",
-        ]
-    )
+        return pick.choice(WITHOUT_EFFECT_ON_REPORTS)
+    return pick.choice(EXPANDED if way < 0.99 else OF_VARIABLES)
 
 
 def random_block(pick: random.Random, depth: int = 0) -> list[bytes]:
@@ -110,15 +91,7 @@ def random_block(pick: random.Random, depth: int = 0) -> list[bytes]:
     lines = []
     for _ in range(pick.choice([0, 1, 2, 4])):
         if pick.random() < 0.25 and depth < 4:
-            word = pick.choice(
-                [
-                    b"@@ifdef ",
-                    b"@@ifndef ",
-                    b"@@if defined ",
-                    b"@@if not defined ",
-                    b"@@if\tnot  defined\t",
-                ]
-            )
+            word = pick.choice(OPENINGS)
             lines.append(word + pick.choice(VARIABLES + [b"NOPE"]))
             lines += random_block(pick, depth + 1)
             if pick.random() < 0.5:
@@ -175,28 +148,8 @@ def random_words(pick: random.Random, path: bytes, bad: float) -> list[bytes]:
                 )
             )
     if pick.random() < bad / 4:
-        parts.append(
-            pick.choice(
-                [
-                    [b"-E"],
-                    [b"-D"],
-                    [b"extra"],
-                    [b"--help"],
-                    [b"-V"],
-                    [b"--limit", b"x"],
-                    [b"-B"],
-                    [b""],
-                    [b"--"],
-                    [b"-B", b"-x"],
-                    [b"-c", path],
-                    [b"--conf", path],
-                    [b"-A", b"-"],
-                    [b"-A="],
-                    [b"--compare=x"],
-                    [b"\xff"],
-                ]
-            )
-        )
+        words = pick.choice(BAD_WORDS).encode("latin-1").split(b" ")
+        parts.append([path if word == b"PATH" else word for word in words])
     pick.shuffle(parts)
     is_short = len(flag[0]) == 2 and config[0].startswith(b"-c")
     if is_short and parts[:2] == [flag, config] and pick.random() < 0.3:

@@ -4,7 +4,7 @@ from __future__ import annotations
 
 import base64
 import random
-from typing import Any, Dict, List, Tuple, Union
+from typing import Any, Dict, List, Optional, Tuple, Union
 
 from tests.oracle.attributes import ATTRIBUTES
 from tests.oracle.database import order_of
@@ -17,42 +17,10 @@ Columns = List[Tuple[bytes, Form]]
 Row = Dict[bytes, Any]
 Rows = Dict[bytes, Row]
 
-PIECES = [
-    b"",
-    b"a",
-    b"b",
-    b"a-b",
-    b"a.b",
-    b"ab",
-    b"B",
-    b"etc",
-    b"%41",
-    b"%zz",
-    b"#x",
-    b"@",
-    b"a b",
-    b"\xc3\xa9",
-    b"\xff",
-    b"\x01",
-    b"\n",
-    b"\\",
-    b"\x7f",
-    b"0",
-]
-NUMBERS = [
-    0,
-    1,
-    -1,
-    7,
-    10,
-    4096,
-    1234567890,
-    2**31,
-    2**63 - 1,
-    2**63,
-    2**64 - 1,
-    -(2**63),
-]
+PIECES = b"|a|b|a-b|a.b|ab|B|etc|%41|%zz|#x|@|a b|\xc3\xa9|\xff|\x01|\n|\\|\x7f|0".split(b"|")
+NUMBERS = [0, 1, -1, 7, 10, 4096, 1234567890, 2**31]
+# The greatest and the least that a field may have, and those of half of the bits.
+NUMBERS += [2**63 - 1, 2**63, 2**64 - 1, -(2**63)]
 MODES = [
     int(mode, 8)
     for mode in (
@@ -61,37 +29,12 @@ MODES = [
     ).split()
 ]
 BITS = [0, 0, 2**64 - 1, 4095, 4094, 316, 2**40 + 36, 32]
-LINKS = [
-    None,
-    None,
-    b"",
-    b"0",
-    b"0-",
-    b"00",
-    b"target",
-    b"../x y",
-    b"%41",
-    b"\xff",
-    b"a\nb",
-    b"\\",
-    b"x" * 32,
-    b"x" * 33,
-    b"-",
-]
-OPAQUE = [
-    b"1",
-    b"abc",
-    b"0-",
-    b"POSIX\\x",
-    b"\xc3\xa9",
-    b"\x01\x02",
-    b"x" * 31,
-    b"x" * 32,
-    b"x" * 33,
-    b"#",
-    b"%41",
-    b"POSIX,dXNlcg==,0",
-]
+LINKS: List[Optional[bytes]] = [None, None]
+LINKS += b"|0|0-|00|target|../x y|%41|\xff|a\nb|\\|-".split(b"|")
+# A name that fills a piece of the details, and one that has a byte more.
+LINKS += [b"x" * 32, b"x" * 33]
+OPAQUE = b"1|abc|0-|POSIX\\x|\xc3\xa9|\x01\x02|#|%41|POSIX,dXNlcg==,0".split(b"|")
+OPAQUE += [b"x" * 31, b"x" * 32, b"x" * 33]
 UNKNOWN = [b"foo", b"caps", b"ftype", b"Size", b"linkcount", b"foo", b"l", b"%6eame"]
 # Fields that are refused by what is said of them, and those of modes.
 BAD_FIELDS = {
@@ -103,17 +46,7 @@ BREAKS = "cut byte drop double exchange order more less name spec stray long".sp
     "field"
 ]
 BAD_SPECS = [b"", b" size", b" name name", b" name size size", b" name" + b" x" * 64, b" Name size"]
-STRAYS = [
-    b"@@begin_db",
-    b"@@db_spec name",
-    b"@@foo",
-    b"@@",
-    b"@@end_dbx",
-    b"@@end_db",
-    b"@ x",
-    b"/a",
-    b"x",
-]
+STRAYS = b"@@begin_db|@@db_spec name|@@foo|@@|@@end_dbx|@@end_db|@ x|/a|x".split(b"|")
 
 
 def random_path(pick: random.Random) -> bytes:
