@@ -7,21 +7,12 @@ from __future__ import annotations
 
 import base64
 import re
-from typing import Any
-
 from tests.lib.answer import Answer, run, shown
-from tests.program.configurations import accepted, limits, names, refused
+from tests.program.configurations import accepted, limits, refused
 from tests.oracle.attributes import ATTRIBUTES
 from tests.program.real_files.folder import NEW, OLD, FolderTest
 
-DIFFERENT = b"AIDE found differences between the two databases.\n"
-SAME = b"AIDE found NO differences between the two databases.\n"
 ACCEPTED = Answer(b"", b"", 0)
-
-# An entry in which nothing but the owner changed: the details have a further line only if one is
-# forced.
-OWNED = b"@@begin_db\n@@db_spec name attr perm size uid\n/c 44 100644 10 %d\n@@end_db\n"
-FORCED_LINES = {"Perm": b"  Perm      : 0644 ", "Size": b"  Size      : 10 "}
 
 # Fields of an entry that has every attribute.
 DETAIL = re.compile(rb"^  (\S+?) *: ", re.M)
@@ -85,25 +76,6 @@ class ConfigurationTest(FolderTest):
         self.folder.write("old", old)
         self.folder.write("new", new)
 
-    def sets(
-        self, label: str, texts: tuple[bytes, bytes, bytes], different: Answer, same: Answer
-    ) -> None:
-        """What three texts answer to two different databases, and to the same one twice."""
-        before, text, after = texts
-        words = self.accepted(text, before, after)
-        self.pair(OLD, NEW)
-        self.check_words(label, words, different)
-        self.pair(OLD, OLD)
-        self.check_words(label + ", the same database", words, same)
-
-
-def quiet_texts() -> list[tuple[bytes, bytes, bytes]]:
-    """All that set `report_quiet`, as three texts."""
-    alone = accepted.QUIET + [
-        front + line + back for front, back in accepted.AROUND for line in accepted.PASSED_OVER
-    ]
-    return [(b"", text, b"") for text in alone] + accepted.QUIET_TEXTS
-
 
 def detail_names(answer: Answer) -> set[str]:
     """The names in the details of a report."""
@@ -132,60 +104,18 @@ class ConfigurationsTest(ConfigurationTest):
         said = b"aide: the configuration is longer than 4194304 bytes\n"
         self.check_words("a configuration that is too long", longer, Answer(b"", said, 17))
 
-    def test_accepted(self) -> None:
-        self.pair(OLD, NEW)
-        usual = run(self.program, self.compared(b""))
-        self.agree("a configuration of no lines", self.compared(b""), usual)
-        for texts in quiet_texts():
-            self.sets(shown(texts[1]), texts, usual, ACCEPTED)
-        for text in accepted.MINIMAL:
-            self.sets(
-                shown(text), (b"", text, b""), Answer(DIFFERENT, b"", 7), Answer(SAME, b"", 0)
-            )
-
-    def test_forced(self) -> None:
-        self.pair(OWNED % 0, OWNED % 1)
-        for name, text in accepted.FORCED:
-            words = self.accepted(text)
-            answer = run(self.program, words)
-            forced = [other for other, line in FORCED_LINES.items() if line in answer.output]
-            self.add(shown(text), [] if forced == [name] else ["forced are %r" % forced])
-            self.agree(shown(text), words, answer)
-
-    def test_forms(self) -> None:
-        """Which names a variable and a group may have, and what each is in an expression."""
-        for name, is_variable, is_group, fault in names.NAMES:
-            for line, is_good in ((b"@@undef " + name, is_variable), (name + b" = p", is_group)):
-                if is_good is not None:
-                    self.check_words(
-                        shown(line),
-                        self.words(b"-D", line),
-                        ACCEPTED if is_good else refusal("config:1: bad name"),
-                    )
-            line = b"my = " + name
-            self.check_words(
-                shown(line),
-                self.words(b"-D", line),
-                refusal("config:1: " + fault) if fault else ACCEPTED,
-            )
-
     def test_names(self) -> None:
-        """What predefined names and expressions force: what is shown whether the owner or the group
-        has changed."""
-        table: Any
-        tables: tuple[tuple[bytes, Any], ...]
-        tables = ((b"", accepted.NAMES), (accepted.OWN_GROUPS, accepted.EXPRESSIONS))
-        for before, table in tables:
-            for text, names_shown in table:
-                words = self.accepted(before + b"report_force_attrs=" + text)
-                shown_of = []
-                for changed in ("uid", "gid"):
-                    self.pair(with_all(), with_all(**{changed: b"1"}))
-                    answer = run(self.program, words)
-                    self.agree(shown(text), words, answer)
-                    shown_of.append(detail_names(answer))
-                got = shown_of[0] & shown_of[1]
-                self.holds(shown(text), got == set(names_shown), sorted(got))
+        """What predefined names force: what is shown whether the owner or the group has changed."""
+        for text, names_shown in accepted.NAMES:
+            words = self.accepted(b"report_force_attrs=" + text)
+            shown_of = []
+            for changed in ("uid", "gid"):
+                self.pair(with_all(), with_all(**{changed: b"1"}))
+                answer = run(self.program, words)
+                self.agree(shown(text), words, answer)
+                shown_of.append(detail_names(answer))
+            got = shown_of[0] & shown_of[1]
+            self.holds(shown(text), got == set(names_shown), sorted(got))
 
     def test_levels(self) -> None:
         """Whether a report of each level has lists and details."""
