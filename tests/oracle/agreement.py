@@ -13,16 +13,7 @@ DIGESTS = frozenset(attribute.name for attribute in ATTRIBUTES if isinstance(att
 # The digests of at least 256 bits by which two files may be the same. The ways to attack GOST are
 # known.
 STRONG = frozenset(
-    [
-        "sha256",
-        "sha512",
-        "whirlpool",
-        "stribog256",
-        "stribog512",
-        "sha512_256",
-        "sha3_256",
-        "sha3_512",
-    ]
+    "sha256 sha512 whirlpool stribog256 stribog512 sha512_256 sha3_256 sha3_512".split()
 )
 
 

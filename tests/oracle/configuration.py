@@ -14,15 +14,10 @@ from .attributes import EMPTY_NAMES, Groups, NAMES, expression_fault, meaning_of
 from .texts import BLANKS, lines_of
 
 LINE_LIMIT, VALUE_LIMIT, COUNT_LIMIT, DEPTH_LIMIT = 65536, 4096, 1024, 32
-LEVELS = [
-    "minimal",
-    "summary",
-    "database_attributes",
-    "list_entries",
-    "changed_attributes",
-    "added_removed_attributes",
-    "added_removed_entries",
-]
+LEVELS = (
+    "minimal summary database_attributes list_entries changed_attributes"
+    " added_removed_attributes added_removed_entries"
+).split()
 BOOLS = {b"yes": True, b"true": True, b"no": False, b"false": False}
 BOOL_OPTIONS = ["report_grouped", "report_summarize_changes", "report_base16", "report_quiet"]
 SET_OPTIONS = [
