@@ -65,6 +65,14 @@ class WeighingTest(ModuleTest):
             self.assertEqual(again[:-1], came[:-1], "known, or too long to be kept")
         self.assertEqual((came.line_at, came.party, came.form), (7, None, "file"))
 
+    def test_remembered(self) -> None:
+        """An access list in base 16 counts, although such rights without it came before."""
+        scales = Scales()
+        plain = {"Type": "File", "Perm": "0644", "UID": 0, "GID": 0}
+        before = weighed(scales, fields_of(old=plain, new=plain))
+        listed = weighed(scales, fields_of(old=plain, new={**plain, "ACL_hex": "ff"}))
+        self.assertLess(listed.rank, before.rank)
+
     def test_types(self) -> None:
         """Two types that have one word are no same one, whatever lines with this word came before."""
         socket = {**OLD, "Type": "Other"}

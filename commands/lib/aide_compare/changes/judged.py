@@ -45,7 +45,7 @@ class Judged:
         line_at = self.file.tell()
         for outline in reader.outlines():
             if outline.silent is None:
-                yield scales.weighed(outline, DECODE(outline.line.decode()), line_at)
+                yield scales.weighed(outline, DECODE(outline.line.decode())[0], line_at)
             else:
                 self.silent[outline.silent.key] += 1
                 if outline.left_out:

@@ -20,12 +20,10 @@ MAX_REMEMBERED = 1 << 10
 # The rights of longer lines are looked at each time, so that what is remembered has a bound.
 MAX_LINE = 1 << 11
 NOTHING: Fields = {}
-# json.loads would look for the encoding of each line first.
-DECODE = json.JSONDecoder().decode
-# The members of a side that say its rights.
-RIGHTS = ("Type", "Perm", "UID", "GID")
-MORE = ("ACL", "XAttrs", "SELinux", "Caps")
-MEMBERS = (*RIGHTS, *MORE, *(f"{name}_hex" for name in MORE))
+# Gives the object of a line, and its end. json.loads would look for an encoding and for blanks.
+DECODE = json.JSONDecoder().raw_decode
+# The members of a side that say its rights, but for those in base 16, which are rare.
+MEMBERS = ("Type", "Perm", "UID", "GID", "ACL", "XAttrs", "SELinux", "Caps")
 # The summary strings of a change of a content, or of where a link points: of those with a letter
 # of no difference in all slots but these.
 CONTENT = re.compile(r"[^!][. ]..[. ]{3}....[. ].[. ]{5}")
@@ -135,7 +133,7 @@ class Scales:
 
     def weighed(self, outline: Outline, fields: Fields, line_at: int) -> Weighed:
         """A change by its line, which has this object, and begins there."""
-        known = self._known(fields, len(outline.line))
+        known = self._known(fields, outline.line)
         rank = self.severity.rank(outline.path, known.held)
         return Weighed(
             outline.key,
@@ -151,8 +149,8 @@ class Scales:
             len(outline.line),
         )
 
-    def _known(self, fields: Fields, size: int) -> Known:
-        if size > MAX_LINE:
+    def _known(self, fields: Fields, line: bytes) -> Known:
+        if len(line) > MAX_LINE or b'_hex":' in line:
             return known_of(*rights_of(fields))
         old = fields.get("old", NOTHING)
         new = fields.get("new", NOTHING)

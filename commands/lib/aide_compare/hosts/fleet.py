@@ -75,7 +75,7 @@ class Fleet:
 
     def add(self, host: int, outline: Outline) -> None:
         """Takes a change of the host with this number."""
-        fields = DECODE(outline.line.decode())
+        fields = DECODE(outline.line.decode())[0]
         weighed = self.scales.weighed(outline, fields, 0)
         fields = differing(fields)
         own = OWN

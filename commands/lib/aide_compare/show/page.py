@@ -170,7 +170,7 @@ class Rows:
         self.valued = 0
 
     def add(self, line: bytes, marks: Marks) -> None:
-        fields = DECODE(line.decode())
+        fields = DECODE(line.decode())[0]
         members = (tuple(fields.get(side, ())) for side in SIDES)
         labels = labels_of(fields["summary"], *members)
         head = head_of(fields["kind"], bytes_of(fields, "path"), labels)
