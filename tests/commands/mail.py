@@ -10,6 +10,7 @@ from email.message import Message
 from typing import Any
 
 from tests.lib.answer import Answer
+from tests.lib.program_test import ScratchTest
 
 from .sandbox import CommandTest, END, HEAD
 
@@ -81,7 +82,7 @@ def many(path: bytes, count: int) -> bytes:
 
 
 @contextlib.contextmanager
-def logging(sandbox: CommandTest, name: str = "log") -> Iterator[list[bytes]]:
+def logging(sandbox: ScratchTest, name: str = "log") -> Iterator[list[bytes]]:
     """The system log, or the journal; afterwards the list has the first line that it got."""
     lines: list[bytes] = []
     with socket.socket(socket.AF_UNIX, socket.SOCK_DGRAM) as log:

@@ -49,18 +49,6 @@ class TextsTest(MailTest):
         check_size(self, "a mail", text)
         self.assertEqual(self.read("words"), b"-oi -t\n", "how sendmail is called")
 
-    def test_statuses(self) -> None:
-        """No mail without a difference. An alarm may be success; the report's options change no
-        counts."""
-        self.assertIsNone(self.mail("old.db", "old.db.gz", "--state", "state", status=0))
-        self.assertEqual(self.state()["status"], "0")
-        for words, status in (
-            (("-A", "report_level=minimal"), 7),
-            (("--alarm-sent-is-success",), 0),
-        ):
-            message = self.mail("old.db", "new.db", *words, status=status)
-            self.assertEqual(subject(message), SUBJECT + COUNTS, words)
-
     def test_errors(self) -> None:
         """What could not be compared is mailed. What was typed wrong is refused without a mail, and
         a unit or cron that has it says so itself; a fault of the defaults is mailed."""

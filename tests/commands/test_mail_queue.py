@@ -3,60 +3,20 @@ told."""
 from __future__ import annotations
 
 import os
-import subprocess
-import sys
-import time
 
 from tests.lib.scratch import read
 
-from .mail import COUNTS, SUBJECT, MailTest, body, call, logging, sent, subject, take_mail
+from .mail import COUNTS, SUBJECT, MailTest, body, call, logging, many, sent, subject, take_mail
 
 # Not in the unit that sends mail: set-ID programs fail below filters.
 FILTERS = (
-    "NoNewPrivileges RestrictAddressFamilies SystemCall PrivateDevices ProtectKernel ProtectClock "
-    "RestrictNamespaces RestrictSUIDSGID LockPersonality MemoryDeny ProtectHostname DynamicUser "
-    "RestrictRealtime"
-).split()
-# Lines of the units.
-SENDING = (
-    "KillMode=process",
-    "ReadWritePaths=-/var/mail -/var/spool -/var/log",
-    "User=_aide",
-    "Type=oneshot",
+    *("NoNewPrivileges", "Restrict", "SystemCall", "PrivateDevices", "LockPersonality"),
+    *("ProtectKernel", "ProtectClock", "ProtectHostname", "MemoryDeny", "DynamicUser"),
 )
-DAILY = (
-    "NoNewPrivileges=yes",
-    "CapabilityBoundingSet=",
-    "User=_aide",
-    "After=dailyaidecheck.service",
-    "OnSuccess=aide-compare-mail.service",
-    "OnFailure=aide-compare-failed.service",
-)
-
-NO_PROCESS = """import os, sys
-sys.path.insert(0, sys.argv[1])
-from aide_compare.mail import sending
-sending.LOG = sys.argv[2]
-def refused():
-    raise OSError(24, "Too many open files")
-os.pipe = os.fork = refused
-try:
-    sending.deliver(sending.sendmail_transport(5), b"To: root\\nSubject: x\\n\\nbody\\n")
-except sending.Fault as fault:
-    print(fault.text)
-"""
+ENDS = {"Success": "mail", "Failure": "failed"}
 
 
 class QueueTest(MailTest):
-    def test_refusals(self) -> None:
-        """sendmail that fails, or hangs."""
-        pair = ("old.db", "new.db")
-        self.stub("sendmail", 'cat > /dev/null; echo "no route" >&2; exit 75')
-        self.fails("a failure", pair, b"cannot send the mail", b"status 75", b"no route")
-        self.stub("sendmail", 'echo "warning: retrying" >&2; sleep 50 & sleep 50')
-        start = time.monotonic()
-        self.fails("it hangs", (*pair, "--mail-time", "1s"), b"did not end within 1 seconds")
-        self.assertLess(time.monotonic() - start, 45, "the time limit")
 
     def test_missing(self) -> None:
         """Without sendmail the status is 18, and the state is that of the comparison."""
@@ -68,16 +28,6 @@ class QueueTest(MailTest):
             said = [b"cannot find sendmail", b"ended with status " + status.encode()]
             self.expect("no mailer, " + new, answer, 18, b"", said)
             self.assertEqual(self.state()["status"], status, "the state without a mailer")
-
-    def test_no_process(self) -> None:
-        """A machine that has no process left for the mail: the system log has a line all the
-        same."""
-        words = [sys.executable, "-c", NO_PROCESS, self.path("lib"), self.path("log")]
-        with logging(self) as lines:
-            done = subprocess.run(words, capture_output=True, env=self.environment())
-        said = b"nothing can be started to send it: Too many open files"
-        self.assertIn(said + b"; the system log has a line", done.stdout, done)
-        self.assertTrue(lines[0].startswith(b"<33>aide-compare mail: no mail could be sent"), lines)
 
     def test_journal(self) -> None:
         """Without any mail, a line at priority alert goes to the system log, or to systemd's
@@ -124,20 +74,6 @@ class QueueTest(MailTest):
         self.assertEqual(subject(sent(self)), SUBJECT + COUNTS, ("the mail behind them", answer))
         self.assertEqual(self.waiting(), ["0.%d.mail" % number for number in (1, 2, 3, 4)])
 
-    def test_failed_unit(self) -> None:
-        """The unit that sends what waits mails that another unit has failed."""
-        failed = {
-            "MONITOR_SERVICE_RESULT": "exit-code",
-            "MONITOR_EXIT_STATUS": "18",
-        }
-        words = ("--send-queue", "queue", "--unit-failed", "x.service")
-        lines = b"Its lines: journalctl -u x.service\n"
-        for environment, how in ((failed, b": exit-code, status 18"), ({}, b"")):
-            call(self, *words, environment=environment)
-            message = sent(self)
-            self.assertIn("failed", subject(message) or "")
-            self.assertEqual(body(message), b"x.service failed" + how + b". " + lines)
-
     def test_full_queue(self) -> None:
         for number in range(64):
             self.write("queue/%d.mail" % number, "x")
@@ -150,11 +86,45 @@ class QueueTest(MailTest):
     def test_units(self) -> None:
         """What must not come back: set-ID programs fail below filters, and 1 to 7 of the
         interpreter are no success."""
-        units = {}
-        for name in ("aide-compare-mail", "aide-compare"):
-            units[name] = read(f"contrib/systemd/{name}.service").splitlines()
-        sending, daily = units["aide-compare-mail"], units["aide-compare"]
-        self.assertFalse([line for line in sending if line.startswith(tuple(FILTERS))])
-        self.assertLessEqual(set(SENDING), set(sending))
-        self.assertLessEqual(set(DAILY), set(daily))
+        sending, daily = (
+            read(f"contrib/systemd/{name}.service").splitlines()
+            for name in ("aide-compare-mail", "aide-compare")
+        )
+        self.assertFalse([line for line in sending if line.startswith(FILTERS)])
+        self.assertLessEqual({"User=_aide", "KillMode=process", "Type=oneshot"}, set(sending))
+        rights = {"User=_aide", "NoNewPrivileges=yes", "CapabilityBoundingSet="}
+        self.assertLessEqual(rights, set(daily))
+        ends = [f"On{end}=aide-compare-{unit}.service" for end, unit in ENDS.items()]
+        self.assertLessEqual(set(ends), set(daily))
         self.assertFalse([line for line in daily if line.startswith("SuccessExitStatus")])
+
+    def test_short(self) -> None:
+        """sendmail that refuses only large mails gets a short one."""
+        got, taken = self.path("got"), self.path("sent")
+        refuse = f'[ "$(wc -c < "{got}")" -lt 3000 ] || {{ echo "message too big" >&2; exit 75; }}'
+        self.stub("sendmail", f'cat > "{got}"; {refuse}; mv "{got}" "{taken}"')
+        self.write("many.db", many(b"/f%04d", 500))
+        answer = call(self, "empty.db", "many.db")
+        self.expect("a short mail", answer, 1, b"", [b"only a short mail was sent", b"too big"])
+        text = body(sent(self))
+        self.assertIn(b"message too big", text)
+        self.assertIn(b"500 open of 500 changes", text)
+
+    def test_room(self) -> None:
+        """A TMPDIR of each size: a mail goes out, or the status says that none did; never a
+        difference without a mail. Without room to judge the changes, it has their counts."""
+        os.mkdir(self.path("small"))
+        self.write("half.db", many(b"/f%05d", 4000))
+        wanted = {
+            1: r"4000 open of 4000 changes|differences \(4000 added\)",
+            18: r"no comparison \(status 18\)",
+        }
+        for size in range(16, 1000, 96):
+            with self.mounted("small", "-t", "tmpfs", "-o", "size=%dk" % size, "none") as is_small:
+                if not is_small:
+                    self.skipTest("nothing can be mounted here")
+                room = {"TMPDIR": self.path("small")}
+                answer = call(self, "empty.db", "half.db", environment=room)
+                self.assertEqual(os.listdir(self.path("small")), [])
+            self.assertIn(answer.status, wanted, (size, answer))
+            self.assertRegex(subject(sent(self)), wanted[answer.status], (size, answer))

@@ -12,17 +12,16 @@ from tests.lib.programs import VARIABLE
 
 from .sandbox import AS_NOBODY, PYTHON, CommandTest, after
 
-OF_QUEUES = "refusals missing queue odd_queue full_queue".split()
+OF_QUEUES = "missing queue odd_queue full_queue short".split()
 TESTS = (
-    *("test_mail.TextsTest.test_" + name for name in ("texts", "statuses", "errors")),
-    "test_mail_size.SizesTest.test_short",
+    *("test_mail.TextsTest.test_" + name for name in ("texts", "errors")),
     *("test_mail_queue.QueueTest.test_" + name for name in OF_QUEUES),
     *("test_run.RunTest.test_" + name for name in ("state", "modes", "failed_states")),
     "test_accept.AcceptTest.test_digests",
     "test_accept.AcceptTest.test_modes",
     "test_accept_partly.AcceptPartlyTest.test_open",
     "test_faults.FaultsTest.test_rooms",
-    *("test_hands.HandsTest.test_" + name for name in ("faulty_defaults", "bad_values")),
+    "test_hands.HandsTest.test_faulty_defaults",
 )
 
 

@@ -8,6 +8,7 @@ import subprocess
 import sys
 from typing import Any, Dict, Tuple
 
+from tests.commands import mail
 from tests.commands.made_up import (
     DIRECTORY_BITS,
     MORE_ACL,
@@ -226,6 +227,35 @@ class RecordedTest(CommandTest):
             answer = self.call("aide-compare", "host-old.db", "host-new.db")
             told = [b"no package groups the changes: ", said]
             self.expect(f"an rpm of {stub}", answer, 5, b"5 open", told)
+
+
+class MailTest(mail.MailTest):
+    """What a mail says of packages."""
+
+    def lines(self, host: Host) -> list[str]:
+        host.write(self)
+        mail.call(self, "host-old.db", "host-new.db")
+        return mail.body(mail.sent(self)).decode().split("\n")
+
+    def test_too_many(self) -> None:
+        """Of more packages than there are lines for, the others are counted."""
+        host = Host()
+        for number in range(1000):
+            name, path = b"package-%04d" % number, b"/usr/share/%04d" % number
+            host.new.file(INFO + name + b".list", TWO).file(path, TWO)
+            host.packages.append(Package(name.decode(), "1", {path: TWO}))
+        lines = self.lines(host)
+        self.assertRegex("\n".join(lines), r"\n  and \d+ packages more: ")
+        named = lines[1 : lines.index("")]
+        self.assertLessEqual(len(named), 10)
+        self.assertRegex(named[-1], r", and \d+ more$")
+        self.assertLessEqual(max(map(len, lines)), 80)
+
+    def test_path_of_a_package(self) -> None:
+        """Few changes of severity high that records have are named by their paths."""
+        lines = self.lines(upgraded(TWO))
+        at = lines.index("  tool 2: 1 file, 1 of severity high")
+        self.assertEqual(lines[at + 1], "    /usr/bin/tool")
 
 
 class ManyTest(CommandTest):

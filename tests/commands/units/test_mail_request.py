@@ -11,7 +11,7 @@ from aide_compare.base import parser
 from aide_compare.base.options import COMPARISON_DEFAULTS, MAIL_DEFAULTS
 from aide_compare.base.parser import defaults_for
 from aide_compare.commands.compare import CompareRequest
-from aide_compare.commands.mail import MailRequest, parser as parser_of_mail, request_of
+from aide_compare.commands.mail import MailRequest, request_of
 
 
 class MailRequestTest(ModuleTest):
@@ -30,26 +30,6 @@ class MailRequestTest(ModuleTest):
             value = wanted.get(name, vars(usual)[name])
             self.assertEqual(vars(request)[name], value, (words, name))
         return request
-
-    def test_words(self) -> None:
-        rows: dict[str, dict[str, Any]] = {
-            "o n": {"address": "root", "notes": []},
-            "o n -c x": {"configuration": "x"},
-            "--to a@b": {"address": "a@b"},
-            "--mail-time 9s": {"seconds": 9},
-            "--attach-page": {"has_page": True},
-            "--queue q --alarm-sent-is-success": {"queue": "q", "sent_is_success": True},
-            "--test": {"is_test": True},
-            "--send-queue q --unit-failed x": {"send_queue": "q", "unit_failed": "x"},
-            "--state s --weekly Tue o n": {"state": "s", "weekly": "Tue"},
-        }
-        for words, wanted in rows.items():
-            self.asks(words, **wanted)
-        comparison = self.asks(
-            "--user u --state s -v -- --weekly n", user="u", state="s", is_verbose=True
-        )
-        got = (comparison.databases, comparison.user, comparison.state)
-        self.assertEqual(got, (["--weekly", "n"], "u", "s"))
 
     def test_refused(self) -> None:
         """What means nothing without another word, or with it."""
@@ -111,13 +91,3 @@ class MailRequestTest(ModuleTest):
             options = (*COMPARISON_DEFAULTS, *MAIL_DEFAULTS)
             with self.subTest(line):
                 self.fails(15, "defaults, line 4: ", defaults_for, options, ())
-
-    def test_help(self) -> None:
-        words = " ".join(parser_of_mail().format_help().split())
-        for part in (
-            "aide-compare mail [OPTIONS] [OLD NEW]",
-            "where the mail goes (root)",
-            "--state FILE",
-            "kept in the queue.",
-        ):
-            self.assertIn(part, words)

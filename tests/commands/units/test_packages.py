@@ -1,9 +1,9 @@
 """dpkg's records: what they say of paths, of which packages, and who may have written them."""
 from __future__ import annotations
 
+import io
 import os
-from types import SimpleNamespace
-from typing import Any
+import tarfile
 from unittest import mock
 
 from tests.commands.units.calls import ModuleTest
@@ -11,6 +11,7 @@ from tests.commands.made_up import Package
 
 from aide_compare.base.ending import Fault
 from aide_compare.changes import packages
+from aide_compare.changes.applied import members_of
 from aide_compare.changes.packages import Dpkg, Member, Members, add_member
 
 TOOL = Package("tool", "2", {b"/usr/bin/tool": b"2"}, {b"/etc/tool": b"2", b"/etc/more": b"2"})
@@ -21,6 +22,16 @@ INFO = b"/var/lib/dpkg/info/"
 
 
 ASKED = {b"/usr/bin/tool\n": b"/usr/bin/tool"}
+
+
+class MembersTest(ModuleTest):
+    def test_members(self) -> None:
+        """A member of a package that is read without end is refused."""
+        for kind, size in ((tarfile.GNUTYPE_SPARSE, 0), (tarfile.REGTYPE, -1)):
+            member = tarfile.TarInfo("./a")
+            member.type, member.size = kind, size
+            file = io.BytesIO(member.tobuf(tarfile.GNU_FORMAT))
+            self.fails(18, "dpkg does not know", list, members_of(file))
 
 
 class PackagesTest(ModuleTest):
@@ -50,22 +61,6 @@ class PackagesTest(ModuleTest):
             else:
                 os.mkfifo(path, 0o600)
             self.assertRaises(Fault, self.dpkg().members, ASKED)
-
-    def test_named(self) -> None:
-        """A package comes and goes with its list. Beside a trusted pair one that has other digests
-        is not signed."""
-        names = [(b"tool.list", "added"), (b"new.list", "added"), (b"new.md5sums", "added")]
-        names += [(b"old.list", "removed"), (b"old.md5sums", "removed"), (b"gone.list", "changed")]
-        names += [(b"other.md5sums", "changed")]
-        rows = [SimpleNamespace(path=INFO + name, kind=kind) for name, kind in names]
-        findings: Any = SimpleNamespace(below=lambda _directory: rows)
-        wanted = {"New packages": ["tool", "new"], "Removed packages": ["old", "gone"]}
-        self.expect("without a pair", self.dpkg().named(findings, False), wanted)
-        wanted["Unsigned packages"] = ["new", "other"]
-        wanted["New packages"] = ["tool"]
-        named = self.dpkg().named(findings, True)
-        self.expect("beside a pair", named, wanted)
-        self.expect("in their order", list(named)[0], "Unsigned packages")
 
     def test_bound(self) -> None:
         """Of records that say the same again and again the first ones count."""

@@ -1,36 +1,12 @@
-"""Parts of what is recorded: which paths may be, how many are asked for at once, and what a content
-has to have."""
+"""Parts of what is recorded: where a link points, and what a content has to have."""
 from __future__ import annotations
 
 import hashlib
-from unittest import mock
 
 from tests.commands.units.calls import ModuleTest
 
-from aide_compare.changes import recorded
-from aide_compare.base.paths import key_of_path
 from aide_compare.changes.packages import Member
-from aide_compare.changes.recorded import (
-    Contents,
-    Matcher,
-    target_of,
-)
-from aide_compare.changes.table import Table
-from aide_compare.changes.weighing import Weighed
-
-
-def table(*rows: tuple[bytes, str, bool]) -> Table:
-    """A table of changed entries with these paths and forms, and whether records are asked."""
-    changes = Table()
-    for path, form, may_be_recorded in rows:
-        row = ("changed", 1, 0, 3, None, form, may_be_recorded, 0, 0)
-        changes.add([Weighed(key_of_path(path), b"", *row)])
-    return changes
-
-
-def merged(path: bytes) -> bytes:
-    """A path where /b is a link to /usr/b."""
-    return path.replace(b"/b", b"/usr/b")
+from aide_compare.changes.recorded import Contents, target_of
 
 
 class RecordedTest(ModuleTest):
@@ -38,30 +14,6 @@ class RecordedTest(ModuleTest):
         for link, target in (("c", b"/a/c"), (b"../../c", b"/c"), ("//c/.", b"/c"), (None, None)):
             self.gives(target, target_of, b"/a/b", {"Lname": link})
         self.gives(None, target_of, b"/a/b", {})
-
-    def test_asked(self) -> None:
-        """At most so many bytes of them at once; only those of a content."""
-        rows = [(b"/%d" % number, "file", True) for number in range(5)]
-        each = recorded.BESIDE + len(b"/0")
-        for size, counts in ((each, [2, 2, 1]), (2 * each, [3, 2]), (5 * each, [5])):
-            with mock.patch.object(recorded, "MAX_ASKED", size):
-                got = [len(asked) for asked in recorded._asked(table(*rows))]
-            self.expect(f"{size} bytes at once", got, counts)
-        links = table((b"/a", "file", False), (b"/b", "link", True), (b"/c", "file", True))
-        every = {b"/b": 2, b"/c": 3}
-        self.expect("those of a content", list(recorded._asked(links)), [every])
-        self.expect("the bound", recorded.MAX_ASKED, 2 << 20)
-
-    def test_match(self) -> None:
-        """No change is read whose path the records do not have."""
-        records, read = mock.Mock(), mock.Mock()
-        records.members.return_value = {}
-        Matcher(records, merged, read).match(
-            table((b"/a", "file", True), (b"/usr/b", "file", True))
-        )
-        wanted = {b"/a\n": b"/a", b"/usr/b\n": b"/usr/b", b"/b\n": b"/usr/b"}
-        self.expect("what is asked for", records.members.call_args[0][0], wanted)
-        read.assert_not_called()
 
     def test_contents(self) -> None:
         """A content that only the file on this machine says is read, as long as there is room."""

@@ -2,13 +2,17 @@
 from __future__ import annotations
 
 import os
-import socket
+from functools import partial
 from unittest import mock
 
+from tests.commands.mail import logging
 from tests.commands.units.calls import OTHER, ModuleTest
 
 from aide_compare.base.directories import open_directory
 from aide_compare.mail import sending
+
+
+MAIL = b"To: root\nSubject: x\n\nbody\n"
 
 
 class SendingTest(ModuleTest):
@@ -32,23 +36,20 @@ class SendingTest(ModuleTest):
         self.gives(None, sending.by_sendmail, self.mailer(words), 60, b"a mail")
         self.assertEqual(self.read("words"), b"-oi -t\na mail")
 
-    def test_find(self) -> None:
-        """Only an executable file is sendmail."""
-        for name in ("one", "two", "two/sendmail"):
-            os.mkdir(self.path(name))
-        self.write("one/sendmail", b"")
-        path = ":".join(["", *(self.path(name) for name in ("one", "two"))])
-        with mock.patch.dict(os.environ, PATH=path), mock.patch.object(sending, "MAILERS", ()):
-            self.fails(18, "cannot find sendmail", sending.find_mailer)
-            os.chmod(self.path("one/sendmail"), 0o755)
-            self.gives(self.path("one/sendmail"), sending.find_mailer)
-
     def test_alert(self) -> None:
-        with socket.socket(socket.AF_UNIX, socket.SOCK_DGRAM) as log:
-            log.bind(self.path("log"))
-            with mock.patch.object(sending, "LOG", self.path("log")):
-                self.gives(True, sending.alert, "x" * 801)
-            self.assertEqual(log.recv(2000), b"<33>aide-compare mail: %s..." % (b"x" * 800))
+        with mock.patch.object(sending, "LOG", self.path("log")), logging(self) as lines:
+            self.gives(True, sending.alert, "x" * 801)
+        self.assertEqual(lines, [b"<33>aide-compare mail: %s..." % (b"x" * 800)])
+
+    def test_no_process(self) -> None:
+        """A machine that has no process left for the mail: the system log has a line all the
+        same."""
+        full = mock.Mock(side_effect=OSError(24, "Too many open files"))
+        said = "nothing can be started to send it: Too many open files; the system log has a line"
+        with mock.patch.object(sending, "LOG", self.path("log")), logging(self) as lines:
+            with mock.patch.multiple(os, pipe=full, fork=full):
+                self.fails(18, said, sending.deliver, partial(sending.by_sendmail, "no", 5), MAIL)
+        self.assertTrue(lines[0].startswith(b"<33>aide-compare mail: no mail could be sent"), lines)
 
     def test_waiting(self) -> None:
         """Only a mail that this user has put there is sent, and none that is too large."""
