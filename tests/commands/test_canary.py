@@ -59,22 +59,6 @@ class CanaryTest(CommandTest):
         self.assertEqual(done.errors, b"", words)
         return done.output_text.splitlines()
 
-    def test_upgrade(self) -> None:
-        """Only hosts with a mark are named, and the canary, which is told whole."""
-        hosts = self.fleet("www3")
-        lines = self.compared(hosts, "--canary", "www1")
-        self.assertEqual(lines[0], f"www1 4 {FIVE}2 open (2 high) of 5 changes", "it comes first")
-        marked = "www3 1 added 1, removed 0, changed 5: 1 open (1 high) of 6 changes"
-        self.assertIn(marked, lines)
-        self.assertIn(f"www2 0 {FIVE}5 changes, all silent", lines)
-        self.assertEqual(
-            lines[-1],
-            "4 hosts: 2 differ, 0 not compared, 0 without differences, 2 with silent ones",
-        )
-        quiet = self.compared(hosts, "-q", "--canary", "www1")
-        self.assertEqual([line.split(" ")[0] for line in quiet[:-1]], ["www1", "www3"])
-        self.assertIn("/hosts/www1/aide.db.new\n", hosts.state("www2"), "it names the pair")
-
     def test_reports(self) -> None:
         """A report begins with the canary, and names nobody who has only what it has."""
         hosts = self.fleet("www3")
@@ -156,15 +140,6 @@ class CanaryTest(CommandTest):
             is_silent = "\nopen=0\n" in hosts.state("www2")
             self.assertEqual(is_silent, is_used, (name, hosts.state("www2")))
 
-    def test_one(self) -> None:
-        """One host beside the canary, and the canary alone."""
-        hosts = self.fleet("www3")
-        for host, count in (("www3", 1), ("www2", 0), ("www1", 2)):
-            hosts.list_hosts(*dict.fromkeys(("www1", host)))
-            lines = self.compared(hosts, "--canary", "www1")
-            self.assertTrue(lines[0].startswith("www1 4 "), lines)
-            self.assertIn(f"\nopen={count}\n", hosts.state(host))
-
     def test_same(self) -> None:
         """A canary without a difference is used, and silences nothing."""
         hosts = self.fleet()
@@ -191,14 +166,6 @@ class CanaryTest(CommandTest):
         self.assertEqual(lines[0], f"www1 0 added 0, removed 0, changed 1: {silent}")
         told = "www2 4 added 0, removed 0, changed 1: 1 open (1 high) of 1 change"
         self.assertIn(told, lines)
-
-    def test_jobs(self) -> None:
-        """Jobs of any number give the same."""
-        found = []
-        for jobs in ("1", "3", "9"):
-            hosts = self.fleet("www2", "www4")
-            found.append(sorted(self.compared(hosts, "--jobs", jobs, "--canary", "www1")))
-        self.assertEqual(found[1:], found[:1] * 2)
 
 
 class NotesTest(ModuleTest):

@@ -1,29 +1,18 @@
-"""The short report of many hosts: 80 lines of 80 columns, the severe changes first, and no host
+"""What people read of many hosts: the short report of 80 lines of 80 columns, the page, and no host
 that crowds out another."""
 from __future__ import annotations
 
 import re
+from typing import Any
 
 from .sandbox import CommandTest
-from .test_hosts_report import Hosts, database, line
-from tests.commands.viewers.pages import heads_in
+from .test_hosts_report import Hosts, database, four_hosts, line
+from .viewers.pages import data_in
 
+ROOM = 100000
 SHADOW = line(b"/etc/shadow", b"mine", 2)
 FLOOD = 3000
 OLD = database(line(b"/etc/shadow", b"old"))
-
-
-def flood(host: int, count: int = FLOOD, name: bytes = b"%05d") -> list[bytes]:
-    """Many new files of one host where cron runs them."""
-    return [line(b"/etc/cron.d/%d" % host + name % number, b"x") for number in range(count)]
-
-
-def mailed(sandbox: CommandTest, hosts: Hosts) -> str:
-    """The text of the mail about all hosts."""
-    sandbox.stub("sendmail", 'cat > "%s/mail"' % sandbox.root)
-    hosts.report("--to", "root")
-    text: str = sandbox.read("mail").decode().partition("\n\n")[2]
-    return text
 
 
 class HostsBriefTest(CommandTest):
@@ -32,54 +21,20 @@ class HostsBriefTest(CommandTest):
         others are still named."""
         hosts = Hosts(self)
         changed = (OLD, database(SHADOW))
-        texts = {"evil1": (OLD, database(SHADOW, *flood(1)))}
+        flood = (line(b"/etc/cron.d/%05d" % number, b"x") for number in range(FLOOD))
+        texts = {"evil1": (OLD, database(SHADOW, *flood))}
         texts.update(good1=changed, good2=changed, good3=(OLD, OLD))
         hosts.compared(texts)
-        for text in (hosts.report("--format=brief").output_text, mailed(self, hosts)):
+        self.stub("sendmail", f'cat > "{self.root}/mail"')
+        hosts.report("--to", "root")
+        mailed = self.read("mail").decode().partition("\n\n")[2]
+        for text in (hosts.report("--format=brief").output_text, mailed):
             self.assertRegex(text, r"evil1, good1 \+1 +changed +/etc/shadow")
             left = re.findall(r"(?m)^  and ([\d,]+) more", text)
             listed = len(re.findall("(?m)^  (?:evil1)? +added +/etc/cron.d/", text))
             rest = sum(int(count.replace(",", "")) for count in left)
             self.assertEqual(listed + rest, FLOOD, text)
             self.assertIn("on evil1\n", text, "whose are left out")
-
-    def test_crowd(self) -> None:
-        """Ten hosts with floods of long names push nothing of the others out of the mail or the
-        page."""
-        hosts = Hosts(self)
-        old_line = line(b"/etc/shadow", b"old")
-        texts = {"good": (OLD, database(SHADOW, line(b"/zz/last", b"x")))}
-        for host in range(10):
-            long = flood(host, 400, b"n" * 150 + b"%05d")
-            texts["evil%d" % host] = (OLD, database(old_line, *long))
-        hosts.compared(texts)
-        text = mailed(self, hosts)
-        first = "\n".join(text.split("\n")[:20])
-        self.assertRegex(first, "(?m)^  good +changed +/etc/shadow")
-        self.assertRegex(text, "(?m)^  good +added +/zz/last")
-        paths = [head["path"] for head in heads_in(hosts.report("--format=page").output_text)]
-        self.assertTrue(any(path.endswith("shadow") for path in paths), paths)
-
-    def test_groups(self) -> None:
-        """The changes of the same hosts are together, and only the first one names them."""
-        hosts = Hosts(self)
-        both = [line(b"/etc/cron.d/%d" % number, b"x") for number in range(3)]
-        own = line(b"/etc/cron.d/1a", b"x")
-        texts = {host: (OLD, database(SHADOW, *both)) for host in ("good1", "good2")}
-        texts["evil"] = (OLD, database(SHADOW, own))
-        hosts.compared(texts)
-        text = hosts.report("--format=brief").output_text
-        rows = text.partition("Open, severity high:\n")[2].split("\n")[:5]
-        found = [row.partition(": ")[0].split() for row in rows]
-        wanted = [
-            ["evil", "added", "/etc/cron.d/1a"],
-            ["good1,", "good2", "added", "/etc/cron.d/0"],
-            *(["added", f"/etc/cron.d/{number}"] for number in (1, 2)),
-            ["good1,", "good2,", "evil", "changed", "/etc/shadow"],
-        ]
-        self.assertEqual(sorted(found), sorted(wanted), rows)
-        at = found.index(wanted[1])
-        self.assertEqual(found[at + 1 : at + 3], wanted[2:4])
 
     def test_shape(self) -> None:
         """At most 80 lines of 80 columns, whatever hosts there are and however long the names
@@ -102,3 +57,60 @@ class HostsBriefTest(CommandTest):
         if missing is not None:
             self.assertEqual(int(missing.group(1)), int(missing.group(3)) + 11)
         self.assertIn(": -rwsr-xr-x", text, "a mode")
+
+
+class HostsPageTest(CommandTest):
+    def only(self, rows: list[Any], path: str, note: str) -> Any:
+        """The one change at a path that has these words beside it."""
+        found = [row for row in rows if row[0]["path"] == path and note in row[0]["note"]]
+        self.assertEqual(len(found), 1, (path, note, rows))
+        return found[0]
+
+    def test_values(self) -> None:
+        """The counts, the hosts that were not compared, and each change with its hosts and
+        values."""
+        hosts = four_hosts(self)
+        hosts.list_hosts("www1", "www2", "www3", "www4", "calm", "never")
+        self.set_names("commands.hosts_report", MAX_NAMES=2)
+        done = hosts.report("--format=page")
+        self.assertEqual((done.status, done.errors), (18, b""))
+        page = done.output_text
+        self.assertTrue(page.startswith("<!doctype html>"), page[:100])
+        title = "aide on 6 hosts: 4 differ, 1 not compared"
+        self.assertIn(f"<title>{title}</title>", page)
+        self.assertIn(f"<pre>{title}", page, "what is there without a script")
+        data = data_in(page)
+        heading = data["heading"]
+        self.assertEqual(heading["title"], title)
+        self.assertTrue(heading["outcome"].startswith("5 different changes, those on the fewest"))
+        counts = [["hosts", 6], ["differ", 4], ["not compared", 1]]
+        self.assertEqual(heading["counts"], counts)
+        self.assertIn(["Not compared: 1", ["never: was never compared"]], heading["lists"])
+        rows = data["rows"]
+        self.assertEqual(len(rows), 5, "each change once")
+        self.assertIn("on 1 of 6 hosts: www4", rows[0][0]["note"])
+        head, values = self.only(rows, "/usr/.x", "on 3 of 6 hosts: www1, www2 and 1 more")
+        self.assertEqual(head["per_host"], ["Mtime", "Inode", "Linkcount"])
+        self.assertIn("rwsr-xr-x", values["new"]["Perm"][1])
+        head, _ = self.only(rows, "/etc/p", "hosts")
+        self.assertEqual(head["old_various"], ["Perm", "SHA256"])
+
+    def test_room(self) -> None:
+        """A page that has no room for all says so at its top, and one host crowds out no other."""
+        hosts = Hosts(self)
+        many = database(*(line(b"/n%04d" % number, b"%d" % number) for number in range(300)))
+        one = database(line(b"/zz"))
+        texts = {"good1": (database(), many), "good3": (database(), one), "same": (OLD, OLD)}
+        hosts.compared(texts)
+        whole = data_in(hosts.report("--format=page").output_text)
+        self.assertEqual((len(whole["rows"]), whole["heading"]["remarks"]), (301, []))
+        self.after_import("hosts.hosts_page", f"page.__defaults__ = ({ROOM},)\n")
+        page = hosts.report("--format=page").output_text
+        self.assertLessEqual(len(page.encode()), ROOM)
+        data = data_in(page)
+        (remark,) = data["heading"]["remarks"]
+        left = int(remark.partition("no room for ")[2].partition(" more changes")[0])
+        self.assertGreater(len(data["rows"]), 20)
+        self.assertEqual(len(data["rows"]), 301 - left)
+        self.only(data["rows"], "/zz", "on 1 of 3 hosts: good3")
+        self.assertIn(self.path("store"), remark.partition("This command prints all: ")[2])

@@ -11,10 +11,6 @@ from .test_fleet import COUNTS, DIFFERS, Fleet
 from .sandbox import CommandTest, END, NEW, OLD, sha256
 
 HOSTS = 8
-SSH = """while [ "${1#-}" != "$1" ]; do [ "$1" = -o ] && shift; shift; done
-say="ssh: connect to host $1 port 22: Connection refused"
-[ ! -e "ROOT/down/$1" ] || { echo "$say" >&2; exit 255; }
-exec cat "ROOT/remote/$1\""""
 LOGS = b"/var/log/a 36 100644 %d\n"
 
 
@@ -27,7 +23,6 @@ class HostsQuietTest(CommandTest):
         """A fleet whose hosts all have the same databases."""
         fleet = Fleet(self)
         shutil.rmtree(self.path("store"))
-        self.stub("ssh", SSH.replace("ROOT", self.root))
         names = ["h%02d" % number for number in range(HOSTS)]
         for name in names:
             fleet.put(name, new, old)
@@ -78,20 +73,6 @@ class HostsQuietTest(CommandTest):
         said = fleet.compare("--exclude", "/x", "--no-defaults", self.hosts)
         self.assertEqual(said.status, 4)
 
-    def test_accept(self) -> None:
-        """No first baseline of other bytes; and a part of a database."""
-        fleet = self.prepare(OLD, NEW)
-        accept = "aide-compare hosts accept"
-        self.write("store/hosts/h04/aide.db.new", b"x" * 500, 0o600)
-        os.remove(self.path("store/hosts/h04/aide.db"))
-        said = fleet.call(accept, "--sha256", sha256(b"x" * 500), "h04")
-        self.assertEqual((said.status, said.output_text), (24, ""), said)
-        self.assertIn("no sound database", said.error_text)
-        fleet.compare_one("h05")
-        said = fleet.call(accept, "--sha256", sha256(NEW), "--keep-open", "/c", "h05")
-        self.assertEqual(said.status, 0, said)
-        self.assertIn("added 0, removed 0, changed 1", said.output_text, "a part of a database")
-
     def test_causes(self) -> None:
         """A host that is down: a later comparison without a fetch does not lose the cause, and is no
         comparison of today."""
@@ -118,22 +99,6 @@ class HostsQuietTest(CommandTest):
         said = fleet.compare("--no-fetch", self.hosts)
         told = "it was not fetched the last time: its cause cannot be read"
         fleet.not_compared(told, said, "h01")
-
-    def test_one(self) -> None:
-        """The name of a host stands once in its line, and one host is one host."""
-        fleet = self.prepare(OLD, NEW)
-        os.remove(self.path("store/hosts/h02/aide.db"))
-        hosts = fleet.list_hosts("h02")
-        said = fleet.compare(hosts)
-        line = "h02 18 there is no baseline yet; see aide-compare hosts add --help\n"
-        summary = "1 host: 0 differ, 1 not compared, 0 without differences\n"
-        self.assertEqual(said.output_text, line + summary)
-        head = ["sh", "-c", '"$@" | head -n 1', "sh"]
-        said = fleet.compare_one("h03", before=head)
-        self.assertTrue(said.output_text.startswith("h03 7 "), said)
-        self.assertNotRegex(said.error_text, "call of the system|Broken pipe")
-        report = fleet.call("aide-compare hosts report", hosts).output_text
-        self.assertTrue(report.startswith("aide on 1 host: 0 differ, 1 not compared"), report)
 
     def test_list_and_remove(self) -> None:
         """All hosts with their last results; and a host that is watched no longer, of which nothing

@@ -133,37 +133,11 @@ def four_hosts(sandbox: CommandTest) -> Hosts:
     return hosts
 
 
+FLOOD = 300
+SHADOW = line(b"/zz/.ssh/authorized_keys", b"mine")
+
+
 class HostsReportTest(CommandTest):
-    def test_same(self) -> None:
-        """The same change is one, whatever the inodes and times are; another digest is another
-        change."""
-        summary, hosts, changes = four_hosts(self).objects()
-        wanted = {"hosts": 5, "unchanged": 1, "differ": 4, "not_compared": 0, "cut": 0}
-        wanted.update(not_listed=0, changes=5)
-        self.assertEqual({key: summary[key] for key in wanted}, wanted)
-        self.assertEqual((hosts["www1"]["listed"], hosts["www1"]["report"]), (4, "whole"))
-        got = [(each["kind"], each["path"], each["names"]) for each in changes]
-        most, every = ["www1", "www2", "www3"], ["www1", "www2", "www3", "www4"]
-        self.assertEqual(
-            got[:3],
-            [("changed", "/d", every), ("changed", "/etc/p", every), ("removed", "/gone", every)],
-        )
-        self.assertEqual(
-            sorted(got[3:]), [("added", "/usr/.x", most), ("added", "/usr/.x", ["www4"])]
-        )
-        self.assertEqual([each["hosts"] for each in changes], [len(each[2]) for each in got])
-
-    def test_orders(self) -> None:
-        """JSON has the order of paths. The text has what is severe first, then what few hosts
-        have."""
-        hosts = four_hosts(self)
-        paths = [each["path"] for each in hosts.objects()[2]]
-        self.assertEqual(paths, sorted(paths))
-        listed = re.findall(
-            r"(?m)^\w+ on (\d) of 5 hosts: .*\n\w+ \w+: (/.*)$", hosts.report().output_text
-        )
-        self.assertEqual(listed[:3], [("1", "/usr/.x"), ("3", "/usr/.x"), ("4", "/d")])
-
     def test_text(self) -> None:
         hosts = four_hosts(self)
         self.set_names("commands.hosts_report", MAX_NAMES=2)
@@ -185,14 +159,7 @@ class HostsReportTest(CommandTest):
     def test_wrong(self) -> None:
         hosts = Hosts(self)
         hosts.list_hosts("good1")
-        wrong = ("--order rare", "--max-age 31d", "--to -x", "x")
-        without_mail = ("--attach-page", "--mail-time 9s")
-        for words in (
-            *wrong,
-            *without_mail,
-            "--format=json --to root",
-            "--smtp mail.example --to root",
-        ):
+        for words in ("--max-age 31d", "x", "--attach-page", "--weekly", "--format=json --to root"):
             said = hosts.report(*words.split())
             self.assertEqual((said.status, said.output_text), (15, ""), words)
             self.assertTrue(said.error_text, words)
@@ -231,14 +198,6 @@ class HostsReportTest(CommandTest):
         self.assertFalse(os.path.exists(self.path("store/hosts/never")))
         found = hosts.objects("--max-age", "0", "--time", "1s")[1]
         self.assertEqual(found["stale"]["status"], 7, "any age")
-
-    def test_anothers_folder(self) -> None:
-        self.needs_root()
-        hosts = Hosts(self)
-        hosts.compared({"good1": (OLD, NEW)})
-        os.chown(self.path("store/hosts/good1"), 65534, 65534)
-        found = hosts.objects()[1]["good1"]
-        self.assertIn("another user can write", found.get("error", ""))
 
     def test_broken(self) -> None:
         """What cannot be read of one host, such as on a damaged disk, keeps no other host from the
@@ -301,7 +260,6 @@ class HostsReportTest(CommandTest):
         heartbeat = self.read("mail").decode()
         self.assertIn("\nSubject: aide on 1 host: nothing to read\n", heartbeat)
         self.assertIn("\n1 host: 0 differ, 0 not compared, 1 without differences\n", heartbeat)
-        self.assertEqual(hosts.report("--weekly").status, 15, "without a mail")
         pair = (database(), database(*(line(b"/n%04d" % number) for number in range(500))))
         same = (OLD, OLD)
         hosts.compared({"calm": same, "good1": pair, "good2": pair, "unknown": same})
@@ -324,3 +282,28 @@ class HostsReportTest(CommandTest):
         said = hosts.report("--to", "root")
         self.assertEqual(said.status, 18)
         self.assertIn("cannot send the mail: status 75", said.error_text)
+
+    def test_severe(self) -> None:
+        """A flood before it in the order of paths hides no severe change of the same host."""
+        hosts = Hosts(self)
+        self.set_names("hosts.host_comparison", MAX_KEPT=20 << 10)
+        flood = (line(b"/a%04d" % number, b"%d" % number) for number in range(FLOOD))
+        old = database(line(b"/a"))
+        long = database(line(b"/a"), *flood, SHADOW)
+        hosts.compared({"long": (old, long), "short": (old, database(line(b"/a", b"2")))})
+        summary, found, changes = hosts.objects()
+        host = found["long"]
+        self.assertEqual((host["report"], found["short"]["report"]), ("cut", "whole"))
+        self.assertTrue(10 < host["listed"] < FLOOD, host)
+        paths = [each["path"] for each in changes if "long" in each["names"]]
+        self.assertEqual(len(paths), host["listed"], "all that is kept")
+        self.assertIn("/zz/.ssh/authorized_keys", paths, "the severe one is kept")
+        self.assertEqual((host["open"], host["high"], summary["cut"]), (FLOOD + 1, 1, 1))
+        words = "long: its changes were cut; "
+        words += f"{host['listed']} of {FLOOD + 1} changes are listed; 1 of all are high\n"
+        self.assertIn(words, hosts.report().output_text)
+        self.assertLess(os.stat(self.path("store/hosts/long/lines")).st_size, 21 << 10)
+        said = hosts.compare_one("long", "--quiet")
+        self.assertEqual(
+            (said.status, said.output_text.count("\n"), said.error_text), (1, 2, ""), said
+        )
