@@ -1,17 +1,15 @@
 """aide-compare accept: digests, what is told, refusals, owners and modes, two at once."""
 from __future__ import annotations
 
-import fcntl
 import gzip
 import os
 import shutil
 import stat
 from collections.abc import Callable
 
-from tests.lib.waiting import until, waits
 
 from .accepting import DIGEST, DONE, FILES, OLDER, TOOL, AcceptingTest, contents, fresh
-from .sandbox import AS_NOBODY, END, HEAD, NEW, NOBODY, OLD, UMASK, sha256
+from .sandbox import AS_NOBODY, END, HEAD, NEW, NOBODY, OLD, sha256
 
 
 class AcceptTest(AcceptingTest):
@@ -31,30 +29,12 @@ class AcceptTest(AcceptingTest):
         self.answered(0, b"the baseline now", b"", TOOL, *words)
         self.assertEqual(contents(self)[:2], (OLD, NEW), "back to the former baseline")
 
-    def test_plain(self) -> None:
-        self.write("base/aide.db.new", NEW)
-        self.accepts(b"the baseline now")
-        self.assertEqual(contents(self), DONE)
-
     def test_first(self) -> None:
         for name in ("aide.db", "aide.db.previous"):
             os.remove(self.path("base/" + name))
         self.accepts(b"this is the first baseline")
         self.assertEqual(contents(self), (NEW, None, NEW, 2))
         self.assertEqual(self.rights("aide.db")[0], 0o600)
-
-    def test_left(self) -> None:
-        """A run that was killed right after the exchange: the next one keeps the former baseline,
-        though it has nothing to accept."""
-        self.write("base/aide.db", NEW)
-        self.write("base/.aide.db.part", OLD)
-        os.link(self.path("base/aide.db"), self.path("base/.aide.db.new"))
-        self.accepts(b"the baseline already")
-        self.assertEqual(contents(self), DONE)
-
-    def test_told(self) -> None:
-        """Both digests, and when the new database was written."""
-        self.accepts([sha256(OLD).encode(), DIGEST.encode(), b", written 20"])
 
     def test_unreadable(self) -> None:
         """A former baseline that is damaged, or that the caller may not read, is kept."""
@@ -85,12 +65,6 @@ class AcceptTest(AcceptingTest):
         told_of_missing = b"cannot open the new database missing"
         self.refused(18, told_of_missing, TOOL, "--sha256", DIGEST, "missing", FILES[1])
         self.assertEqual(contents(self), (OLD, OLDER, NEW, 3), "what is there after all refusals")
-
-    def test_cut(self) -> None:
-        self.write("base/aide.db.new", self.read("base/aide.db.new")[:-4], 0o600)
-        done = self.call(TOOL, "--sha256", DIGEST, *FILES)
-        self.expect("a database cut short", done, 18, b"", b"cut short or damaged")
-        self.assertEqual(gzip.decompress(self.read("base/aide.db")), OLD)
 
     def test_full_output(self) -> None:
         told = b"is the baseline, but that could not be printed"
@@ -124,29 +98,6 @@ class AcceptTest(AcceptingTest):
         self.refuses(18, said)
         self.refuses(18, said)
 
-    def test_modes(self) -> None:
-        owner = (12345, 12346) if os.getuid() == 0 else (os.getuid(), os.getgid())
-        for mode in (0o600, 0o640, 0o4755):
-            fresh(self)
-            os.chown(self.path("base/aide.db"), *owner)
-            os.chmod(self.path("base/aide.db"), mode)
-            self.accepts(None, before=UMASK % 0)
-            self.assertEqual(self.rights("aide.db"), (mode & 0o666, *owner))
-            self.assertEqual(self.rights("aide.db.previous"), (mode, *owner))
-
-    def test_owner(self) -> None:
-        """The folder of another user, in which the baseline is root's, as after aideinit."""
-        self.needs_root()
-        fresh(self, NOBODY)
-        self.accepts(b"the baseline now")
-        self.assertEqual(contents(self), DONE)
-        self.assertEqual(self.rights("aide.db")[:2], (0o600, NOBODY))
-        self.assertEqual(self.rights("aide.db.previous")[:2], (0o600, 0))
-        fresh(self, 12345)
-        self.write("readable", NEW)
-        words = ("--sha256", DIGEST, "readable", "base/aide.db")
-        self.refused(18, b"cannot", TOOL, *words, before=AS_NOBODY)
-
     def test_full_disk(self) -> None:
         """A baseline that cannot be replaced for want of room stays, and nothing is left beside
         it."""
@@ -165,24 +116,8 @@ class AcceptTest(AcceptingTest):
             self.assertEqual(self.read("base/aide.db"), OLD, "as it was")
 
     def test_at_once(self) -> None:
-        """A locked folder is waited for, and of five at once each accepts."""
-        words = (TOOL, "--sha256", DIGEST, *FILES)
-        folder = os.open(self.path("base"), os.O_RDONLY)
-        fcntl.flock(folder, fcntl.LOCK_EX)
-        run = self.start(*words)
-
-        def is_waiting() -> bool:
-            """It asks for the lock again and again, and sleeps meanwhile."""
-            has_folder = waits(run.pid, "nanosleep", lambda names: self.path("base") in names)
-            return run.poll() is not None or bool(has_folder)
-
-        until(is_waiting)
-        self.assertEqual((run.poll(), contents(self)[0]), (None, OLD), "it waits")
-        os.close(folder)
-        run.communicate()
-        self.assertEqual((run.returncode, contents(self)), (0, DONE), "then it accepts")
-        fresh(self)
-        runs = [self.start(*words) for _ in range(5)]
+        """Of five at once each accepts: a locked folder is waited for."""
+        runs = [self.start(TOOL, "--sha256", DIGEST, *FILES) for _ in range(5)]
         for run in runs:
             run.communicate()
         self.assertEqual([run.returncode for run in runs], [0] * 5)

@@ -4,21 +4,79 @@ from __future__ import annotations
 
 import gzip
 import os
-import time
-from collections.abc import Callable
+import shutil
+import stat
+from collections.abc import Callable, Iterator
 from typing import Any
 
 from tests.lib.answer import Answer
 from tests.lib.program_test import slow
 
-from .accepting import AcceptingTest, accept_at, contents, fresh, library
-from .others_folder import BASELINE, SECRET, Swapping, call, harm, put, roots
-from .sandbox import NEW, NOBODY, OLD, sha256
+from .accepting import DIGEST, TOOL, AcceptingTest, accept_at, contents, fresh, library
+from .sandbox import CommandTest, NEW, NOBODY, OLD, sha256
 
-# So many rounds count, in which the other user was at work; and so many there are at most.
-ROUNDS, MOST_ROUNDS = 200, 1000
 MOST_CALLS = 250
 FOR_THE_CALL, FOR_GOOD = 2, 3
+BASELINE = "theirs/base/aide.db"
+SECRET = b"what only root may read and write\n"
+# For each kind of attack two names in theirs/ that change places, and where the second one leads if
+# it is a link.
+KINDS = {
+    "baseline": ("base/aide.db", "base/trap", "root/secret"),
+    "folder": ("base", "trap", "root"),
+    "moved folder": ("base", "second", None),
+}
+
+
+def put(sandbox: CommandTest, kind: str) -> tuple[str, str]:
+    """Makes the folders anew. Returns the two names of an attack."""
+    for name in ("root", "theirs"):
+        shutil.rmtree(sandbox.path(name), ignore_errors=True)
+    for name in ("root/secret", "root/aide.db"):
+        sandbox.write(name, SECRET, 0o600)
+    for name in (BASELINE, "theirs/second/aide.db"):
+        sandbox.write(name, OLD, 0o600)
+    sandbox.write("new", NEW, 0o600)
+    for folder, _, names in os.walk(sandbox.path("theirs")):
+        for path in [folder] + [os.path.join(folder, name) for name in names]:
+            os.chown(path, NOBODY, NOBODY)
+    one, other, target = KINDS[kind]
+    if target:
+        os.symlink(sandbox.path(target), sandbox.path("theirs/" + other))
+    return sandbox.path("theirs/" + one), sandbox.path("theirs/" + other)
+
+
+def call(sandbox: CommandTest, **environment: object) -> Answer:
+    settings = {key: str(value) for key, value in environment.items()}
+    return sandbox.call(TOOL, "--sha256", DIGEST, "new", BASELINE, environment=settings)
+
+
+def roots(sandbox: CommandTest) -> dict[str, tuple[int, int, int, bytes]]:
+    """All that is in root's folder, and the folder: owner, mode, and the bytes of files."""
+    found = {}
+    for folder, folders, names in os.walk(sandbox.path("root")):
+        for path in [folder] + [os.path.join(folder, name) for name in folders + names]:
+            entry = os.lstat(path)
+            data = sandbox.read(path) if stat.S_ISREG(entry.st_mode) else b""
+            found[path] = entry.st_uid, entry.st_gid, entry.st_mode, data
+    return found
+
+
+def made_by_root(sandbox: CommandTest) -> Iterator[str]:
+    """The regular files in the other user's folder that are not his."""
+    for folder, _, names in os.walk(sandbox.path("theirs")):
+        for name in names:
+            found = os.lstat(os.path.join(folder, name))
+            if stat.S_ISREG(found.st_mode) and found.st_uid != NOBODY:
+                yield name
+
+
+def harm(sandbox: CommandTest, before: dict[str, Any]) -> list[object]:
+    """What an attack has changed of root's, and what root's rights have made in the other user's
+    folder."""
+    now = roots(sandbox)
+    changed = [(path, before.get(path), now.get(path)) for path in before.keys() | now.keys()]
+    return [entry for entry in changed if entry[1] != entry[2]] + list(made_by_root(sandbox))
 
 
 @slow
@@ -26,7 +84,7 @@ class AcceptAttacksTest(AcceptingTest):
     def at_call(self, kind: str, **options: Any) -> tuple[Answer, list[object], bool]:
         """Two names change places before one call of the command: its answer, what is harmed, and
         whether they did."""
-        one, other, _ = put(self, kind)
+        one, other = put(self, kind)
         before, mark = roots(self), self.path("marks/swapped")
         if os.path.isdir(mark):
             os.rmdir(mark)
@@ -58,28 +116,6 @@ class AcceptAttacksTest(AcceptingTest):
         self.assertGreater(len(statuses), 12 * len(ways), "moments")
         return set(statuses)
 
-    def in_a_loop(self, kind: str) -> None:
-        one, other, target = put(self, kind)
-        before, begun, busy = roots(self), time.time(), 0
-        statuses: list[int] = []
-        with Swapping(self, one, other, target or "") as swapping:
-            while busy < ROUNDS and len(statuses) < MOST_ROUNDS:
-                database = NEW.replace(b" 5\n", b" %d\n" % (1000 + len(statuses)))
-                self.write("new", database, 0o600)
-                count = swapping.count()
-                done = call(self, database)
-                busy += swapping.count() > count + 1
-                statuses.append(done.status)
-                self.assertEqual(harm(self, before), [], (len(statuses), done))
-                self.assertIn(done.status, (0, 18), done)
-            count, user = swapping.count(), swapping.user()
-        refused, seconds = statuses.count(18), time.time() - begun
-        told = f"{kind}: {count} swaps, two or more in {busy} of {len(statuses)} rounds, "
-        told += f"{refused} refused, {seconds:.0f} seconds"
-        print(told, flush=True)
-        self.assertEqual((user, busy), (NOBODY, ROUNDS), told)
-        self.assertGreater(refused, 0, told)
-
     def test_baseline_at_calls(self) -> None:
         self.assertEqual(self.at_all_calls("baseline"), {0, 18})
 
@@ -90,12 +126,6 @@ class AcceptAttacksTest(AcceptingTest):
         """The folder gets another name: the bytes go where it goes, and that is told if the path
         leads elsewhere at the end."""
         self.at_all_calls("moved folder", (FOR_GOOD,))
-
-    def test_baseline_in_a_loop(self) -> None:
-        self.in_a_loop("baseline")
-
-    def test_folder_in_a_loop(self) -> None:
-        self.in_a_loop("folder")
 
     def test_names_taken(self) -> None:
         """At each name that is used lies a link of either sort to a file of root."""

@@ -18,7 +18,6 @@ TESTS = (
     *("test_mail_queue.QueueTest.test_" + name for name in OF_QUEUES),
     *("test_run.RunTest.test_" + name for name in ("state", "modes", "failed_states")),
     "test_accept.AcceptTest.test_digests",
-    "test_accept.AcceptTest.test_modes",
     "test_accept_partly.AcceptPartlyTest.test_open",
     "test_faults.FaultsTest.test_rooms",
     "test_hands.HandsTest.test_faulty_defaults",
