@@ -183,17 +183,6 @@ class Host:
         words = ("host-old.db", "host-new.db")
         return str(sandbox.call("aide-compare", *words).output.decode())
 
-    def expect(self, sandbox: CommandTest, wanted: Dict[Tuple[str, bytes], str]) -> None:
-        """Checks the standings of paths, each under a label: "open high", "recorded medium tool 2",
-        "same", or "no change"."""
-        answer, objects = self.ask(sandbox)
-        sandbox.holds("the nights are compared", answer.status <= 7, answer)
-        sandbox.holds("nothing is left", not sandbox.leftovers(), sandbox.leftovers())
-        found = standings_of(objects)
-        for (label, path), want in wanted.items():
-            got = found.get(path, "no change")
-            sandbox.holds(f"{label}: {path!r}", got == want, (got, want))
-
 
 def write_records(sandbox: CommandTest, files: Dict[str, bytes]) -> None:
     """dpkg's records of the machine, as the commands of the sandbox see it; none without files."""

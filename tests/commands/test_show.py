@@ -2,12 +2,9 @@
 from __future__ import annotations
 
 import base64
-import os
-import unittest
 
-from tests.commands.viewers.pages import HAS_NODE, seen
 
-from .sandbox import CommandTest, END
+from .sandbox import CommandTest, END, HEAD
 
 TOOL = "aide-compare show"
 COLUMNS = b"@@begin_db\n@@db_spec name lname attr perm bcount uid gid size mtime inode lcount sha256 acl xattrs\n"
@@ -55,49 +52,16 @@ class ShowTest(CommandTest):
         ]
         self.assertEqual(answer.output.decode().splitlines(), wanted)
 
-    @unittest.skipUnless(HAS_NODE, "not installed: node")
-    def test_words(self) -> None:
-        """The brief, the page and show have one word for an attribute, and the page's row of a
-        set-ID program shows the mode."""
-        entry = b"/x 0 %d 100755 8 0 0 5 MTcwMDAwMDAwMA== 77 1 %s %s 0\n"
-        acl = b"POSIX," + base64.b64encode(b"user::rwx\ngroup::r-x\nother::r-x\n") + b",0"
-        digests = [base64.b64encode(bytes([number] * 32)) for number in range(2)]
-        old = entry % (ATTR, digests[0], b"0")
-        new = entry % (ATTR, digests[1], acl)
-        new = new.replace(b" 100755 8 0 0 5 ", b" 104755 8 1000 0 6 ").replace(b" 77 1 ", b" 77 2 ")
-        self.write("one.db", COLUMNS + old + END)
-        self.write("two.db", COLUMNS + new + END)
-        pair = ["one.db", "two.db"]
-        mode = "mode -rwxr-xr-x -> -rwsr-xr-x"
-        brief = self.call("aide-compare", *pair).output.decode()
-        words = f"/x: content, {mode}, owner root -> 1000, size 5 -> 6, links 1 -> 2, ACL\n"
-        self.assertIn(words, brief)
-        page = self.call("aide-compare page", *pair).output
-        rows = seen(page)["entries"]
-        self.assertEqual(rows[0]["about"], f"size +1, {mode}, owner 0 -> 1000, links, content, ACL")
-        names = ["size", "mode", "owner", "links", "ACL", "SHA256"]
-        self.assertEqual([row[0] for row in rows[0]["rows"]], names)
-        lines = self.call(TOOL, "/x", *pair).output.decode().splitlines()
-        self.assertEqual(sorted(line.split()[0] for line in lines[1:]), sorted(names))
-
-    def test_hostile(self) -> None:
-        """Bytes of names and links are escaped, a path is given as it is on the disk or as it was
-        printed, and none of its bytes is a wildcard."""
-        fields = b"/%s %%1b[2J%%0a*%%20Size %d 120777 0 0 0 4 0 1 1 0 0 0\n"
-        names = (b"%2a", b"a%1b[31m%0ax%ff", b"ab", b"new%0aline")
-        entries = b"".join(fields % (name, ATTR) for name in names)
-        self.write("none.db", COLUMNS + END)
-        self.write("h.db", COLUMNS + entries + END)
-        for path, shown in (
-            (os.fsdecode(b"/a\x1b[31m\nx\xff"), b"/a\\033[31m\\012x\\377\n"),
-            ("/a\\033[31m\\012x\\377", b"/a\\033[31m\\012x\\377\n"),
-            ("/new\nline", b"/new\\012line\n"),
-            ("/*", b"/*\n"),
-        ):
-            answer = self.call(TOOL, path, "none.db", "h.db")
-            self.assertTrue(answer.output.startswith(b"open medium added Link: " + shown), answer)
-            self.assertEqual((answer.output.count(b"Link: "), b"\x1b" in answer.output), (1, False))
-            self.assertNotIn(b"\n* size", answer.output)
+    def test_names(self) -> None:
+        """A path is given as it is on the disk or as it was printed, and none of its bytes is a
+        wildcard."""
+        self.write("none.db", HEAD + END)
+        names = (b"/%2a", b"/a%1b", b"/ab")
+        self.write("h.db", HEAD + b"".join(name + b" 36 100644 1\n" for name in names) + END)
+        for path, shown in (("/*", b"/*\n"), ("/a\033", b"/a\\033\n"), ("/a\\033", b"/a\\033\n")):
+            output = self.call(TOOL, path, "none.db", "h.db").output
+            self.assertTrue(output.startswith(b"open medium added File: " + shown), output)
+            self.assertEqual(output.count(b"File: "), 1, output)
 
     def test_refused(self) -> None:
         pair = ["old.db", "new.db"]

@@ -5,15 +5,15 @@ from __future__ import annotations
 import json
 import os
 import re
-import unittest
+import subprocess
 
 from tests.commands import mail
-from tests.commands.made_up import Host, Package, standings_of, time_of
+from tests.commands.made_up import FILE_BITS, Host, Package, standings_of, time_of
 from tests.commands.sandbox import CommandTest
-from tests.commands.viewers.pages import HAS_NODE, data_in, seen
 from tests.lib.answer import Answer
 
 TOOL, NAGIOS = "aide-compare", "check_aide_compare"
+MODE_BIT = 1 << 2  # Of a rule that asks for permissions.
 ONE, TWO = b"one", b"two, of the upgraded package"
 SAMPLE = {
     b"/srv/gone": "open medium",
@@ -191,6 +191,19 @@ class StandingsTest(mail.MailTest):
         opened = dict.fromkeys((b"/srv", b"/dev/null", b"/dev/sda"), "open")
         self.assertEqual(found, {b"/srv/same": "same", **opened})
 
+    def test_unknown_rights(self) -> None:
+        """A mode that nobody asked for may have changed: that is severe. So it is if a text forces
+        other attributes before it names its report, which leaves rights out."""
+        host = Host()
+        for night, content in ((host.old, ONE), (host.new, TWO)):
+            night.file(b"/srv/file", content, attr=FILE_BITS & ~MODE_BIT)
+            night.file(b"/srv/known", content)
+        found = standings_of(host.ask(self)[1])
+        self.assertEqual(found, {b"/srv/file": "open high", b"/srv/known": "open medium"})
+        config = self.write("config", "report_force_attrs=n\nreport_url=stdout\n")
+        found = standings_of(host.ask(self, "-c", config)[1])
+        self.assertEqual(found, {b"/srv/file": "open high", b"/srv/known": "open high"})
+
     def test_lines(self) -> None:
         """The lines of aide-compare json have the standing of each change, and the last one all
         counts. What is silent has no severity."""
@@ -200,20 +213,6 @@ class StandingsTest(mail.MailTest):
         self.assertEqual(objects[-1].get("standings"), numbers)
         (line,) = [fields for fields in objects if fields.get("standing") == "same"]
         self.assertNotIn("severity", line)
-
-    def test_pages(self) -> None:
-        """A page has the standings, and the brief for who has no script."""
-        prepare(self)
-        page = self.call("aide-compare page", "o.db", "n.db").output
-        self.assertIn(b"<pre>" + WORDS.encode(), page, "what is there without a script")
-        data = data_in(page)
-        counts = dict(data["heading"]["counts"])
-        self.assertEqual((counts["open"], counts["recorded"], counts["same"]), (4, 1, 1))
-        entries = {entry["path"]: entry for entry, _ in data["rows"]}
-        self.assertEqual(entries["/usr/lib/tool"]["package"], "tool 2")
-        standings = [entry["standing"] for entry, _ in data["rows"]]
-        self.assertEqual(standings, ["open"] * 4 + ["recorded", "same"], "what has room first")
-        self.assertEqual(data["rows"][0][0]["path"], "/usr/.x y")
 
     def test_monitoring(self) -> None:
         """Nagios, Prometheus and JSON read the same counts."""
@@ -281,24 +280,6 @@ class StandingsTest(mail.MailTest):
         told = [b"no package groups the changes: out of memory", b"5 open (1 high)"]
         self.expect("records that fail late", answer, 7, b"5 open (1 high) of 6", told)
 
-    def test_many(self) -> None:
-        """Of many entries the first are listed, the most severe first, and the others are
-        counted."""
-        host = sample()
-        for number in range(3000):
-            host.new.file(b"/srv/m/%04d" % number, ONE)
-        text = host.brief(self)
-        parts = (
-            r"\A3004 open \(1 high\), 1 recorded of 3006 changes\n",
-            r"/usr/\.x y",
-            r"/srv/gone",
-            r"/srv/m/0000",
-            r"\n  and 2980 more in /srv/m\n",
-            r"Recorded, as dpkg on this host says:",
-        )
-        self.assertRegex(text, re.compile(".*".join(parts), re.S))
-        self.assertEqual(text.count("/srv/m/"), 20, text[:500])
-
     def test_hostile(self) -> None:
         """Names of others are escaped in the text, and cannot make a line of it."""
         for name in (
@@ -316,6 +297,35 @@ class StandingsTest(mail.MailTest):
             self.assertIn("\\", text)
 
 
+class TerminalTest(CommandTest):
+    """A terminal gets the same bytes as a pipe."""
+
+    def setUp(self) -> None:
+        super().setUp()
+        prepare(self)
+
+    def on_terminal(self, *words: str) -> tuple[int, bytes]:
+        """The status, and what a terminal gets."""
+        return self.terminal(TOOL, *words, stdin=subprocess.DEVNULL).end()
+
+    def test_same(self) -> None:
+        for words in ((), ("--report",), ("-A", "report_level=minimal")):
+            output = self.call(TOOL, *words, "o.db", "n.db").output
+            status, text = self.on_terminal(*words, "o.db", "n.db")
+            self.assertEqual((status, b"\033" in text), (7, False), text)
+            self.assertIn(output, text)
+        self.assertEqual(self.on_terminal("-q", "o.db", "n.db"), (7, b""))
+
+    def test_hostile(self) -> None:
+        """No byte of a name is obeyed, also not of one on the command line."""
+        name = b"/usr/%1b[31m%0aOpen,%20severity%20high:%0a"
+        self.write("h\033[2J.db", self.read("n.db").replace(b"/usr/.x%20y", name))
+        status, text = self.on_terminal("o.db", "h\033[2J.db")
+        self.assertEqual((status, b"\033" in text), (7, False), text)
+        self.assertIn(b"h\\033[2J.db", text)
+        self.assertEqual(text.count(b"Open, severity high:\n"), 1, text)
+
+
 class OrderTest(mail.MailTest):
     """One order in all that people read: a set-ID bit comes before a key, a key before a program, and
     each of these before what is removed or of others, wherever their paths are."""
@@ -325,10 +335,3 @@ class OrderTest(mail.MailTest):
         self.assertEqual(named(host.brief(self)), ORDER)
         mail.call(self, "host-old.db", "host-new.db")
         self.assertEqual(named(mail.body(mail.sent(self)).decode()), ORDER)
-
-    @unittest.skipUnless(HAS_NODE, "not installed: node")
-    def test_page(self) -> None:
-        night_of_all().write(self)
-        page = self.call("aide-compare page", "host-old.db", "host-new.db").output
-        paths = [entry["path"] for entry in seen(page)["entries"]]
-        self.assertEqual(named(" ".join(paths)), ORDER)

@@ -17,7 +17,7 @@ from tests.commands.units.streams import fields_of, stream_of
 from tests.commands.viewers import hostile
 from tests.commands.viewers.lines import Fields, changes_of, objects_of, page_over
 from tests.commands.viewers.lines import without_same_rights
-from tests.commands.viewers.pages import CASES, HAS_NODE, bytes_shown, contrast_faults, seen
+from tests.commands.viewers.pages import CASES, HAS_NODE, bytes_shown, seen
 from tests.commands.viewers.schema import Validator, schema_of_lines
 
 from aide_compare.base.words import SEVERITIES
@@ -103,9 +103,6 @@ def random_settings(pick: random.Random) -> dict[str, Any]:
 
 
 class ViewersTest(ProgramTest):
-    def test_style(self) -> None:
-        self.assertEqual(contrast_faults(part_of("page.css")), [])
-
     def test_script(self) -> None:
         """The script makes no markup of texts, and fills nested folders in a loop, of which few are
         open at first: no function of it calls itself as deep as folders are nested."""

@@ -6,21 +6,15 @@ import json
 import os
 import subprocess
 import sys
-from typing import Any
 
 from tests.commands.units import TOP
 from tests.commands.units.calls import ModuleTest
-from tests.lib.scratch import read
 
-from aide_compare import VERSION
-from aide_compare.base import ending, escapes, kinds, options, words
-from aide_compare.base.parser import read as read_options
-from aide_compare.base.paths import key_of_path
-from aide_compare.changes.table import Row
+from aide_compare.base import ending, escapes, kinds, words
 from aide_compare.compare import state
 from aide_compare.lines import attributes
 from aide_compare.lines.change import Change, Counts, Values, change_of
-from aide_compare.show import digest, entry
+from aide_compare.show import entry
 
 ESCAPED: tuple[tuple[str | bytes, str], ...] = (
     (b"a b", "a b"),
@@ -118,7 +112,8 @@ class TextsTest(ModuleTest):
         gone: Values = {**rights, "Size": 6, "Mtime": 1795602777}
         moved: Values = {**kept, "Bcount": 16}
         dated = "size 5 -> 6, 2026-11-25 10:32 UTC"
-        whole = "-rw-r--r-- root:root 6 bytes"
+        mode = "-rw-r--r-- root:root"
+        whole = f"{mode} 6 bytes"
         rows: list[tuple[str, tuple[Values | None, Values | None], str]] = [
             ("came", (None, back), f"{whole}, 2026-11-25 10:32 UTC"),
             ("went", (back, None), whole),
@@ -126,49 +121,13 @@ class TextsTest(ModuleTest):
             ("changed, without the time of its inode", (old, gone), dated),
             ("changed with the times of before", (old, kept), "size 5 -> 6"),
             ("has other blocks", (moved, {**kept, "Bcount": 8}), "blocks"),
+            ("came with capabilities", (None, {**rights, "Caps": "x"}), f"{mode}, capabilities"),
             ("came, with a rule that asks for little", (None, {"Size": 6}), "6 bytes"),
             ("came, without its group", (None, {"UID": 7}), "7:?"),
             ("changed in its time alone", ({"Mtime": 0}, {}), "mtime 1970-01-01T00:00:00Z -> none"),
         ]
         for label, pair, want in rows:
             self.expect("what %s, and when" % label, entry.entry_words(change_between(*pair)), want)
-
-    def test_room(self) -> None:
-        """In a line without room the size of a new entry goes before its mode."""
-        values: Values = {"Perm": "4755", "UID": 0, "GID": 0, "Size": 151344, "Ctime": 1795602777}
-        change = change_between(None, values)
-        row = Row(0, key_of_path(b"/a"), b"", "added", 0, 0, 0, "open", "")
-        mode = "added    /a: -rwsr-xr-x root:root"
-        sized = f"{mode} 151344 bytes"
-        dated = f"{sized}, 2026-11-25 10:32 UTC"
-        lines = {0: dated, 68: dated, 67: sized, 46: sized, 45: mode, 33: mode, 32: "added    /a"}
-        for width, line in lines.items():
-            self.gives(line, digest.entry_line, row, lambda _: change, "", width)
-
-    def test_options(self) -> None:
-        class Wanted(options.Asked):
-            operands: list[str] = options.field(options.Operand("A B", "two", "*"))
-            max_size: int = options.field(options.MAX_SIZE)
-            max_age: int = options.field(options.MAX_AGE)
-            text: str = options.option("--text", "a text", "TEXT")
-
-        def asks(words: list[str]) -> Any:
-            return read_options(Wanted, words, "name", "What it does.")
-
-        given = asks(["a", "--max-size", "2k", "b", "--max-age=2h"])
-        found = (given.operands, given.max_size, given.max_age)
-        self.assertEqual(found, (["a", "b"], 2048, 7200), "options between operands")
-        for refused in (
-            "--max-siz 1",
-            "--odd",
-            "--max-size 1x",
-            "--max-size=",
-            "--max-age 31d",
-            "--text=",
-            "--max-size",
-        ):
-            self.fails(15, "", asks, refused.split())
-        self.assertEqual(VERSION, read("VERSION").strip())
 
     def test_state(self) -> None:
         counts = Counts(open=6, open_low=6, told_status=7)
