@@ -12,13 +12,12 @@ from typing import Any
 from tests.lib.answer import Answer
 from tests.lib.program_test import slow
 
-from .sandbox import AS_NOBODY, CommandTest, NEW, NOBODY, OLD, UMASK, sha256
+from .sandbox import AS_NOBODY, CommandTest, NEW, NOBODY, OLD, sha256
 from .states import state_text
 
 TOOL = "aide-compare compare --report"
 LIMITED = "resource.setrlimit(resource.RLIMIT_%s, (%d, %d))"
 BEFORE = b"as before\n"
-MINIMAL = b"AIDE found differences between the two databases.\n"
 
 
 def is_compared(answer: Answer) -> bool:
@@ -35,18 +34,6 @@ class AttacksTest(CommandTest):
     def with_memory(self, size: int, tool: str, *words: str) -> Answer:
         answer: Answer = self.call(tool, *words, before=LIMITED % ("AS", size << 20, size << 20))
         return answer
-
-    def test_names_that_clash(self) -> None:
-        """The names of the two databases fall together, or one is named as the private copy of the
-        other would be."""
-        for name in ("x/db", "room/new.db", "room/3"):
-            self.write(name, OLD)
-        for name in ("y/db", "room/old.db", "room/4"):
-            self.write(name, gzip.compress(NEW))
-        self.compared("x/db", "y/db")
-        self.compared("x/../x/db", "./y//db")
-        self.compared("room/new.db", "room/old.db")
-        self.compared("room/3", "room/4")
 
     def test_few_descriptors(self) -> None:
         for count in range(4, 26):
@@ -245,22 +232,3 @@ class AttacksTest(CommandTest):
             if "state" in words:
                 self.assertEqual(self.state()["status"], "18", tool)
                 os.remove(self.path("state"))
-
-    def test_fixed_reports(self) -> None:
-        """What a line report_url=stdout of a file has fixed stays, as for AIDE: -A changes none of
-        it."""
-        text = "report_level=minimal\n report_url = stdout\nreport_level=summary\nreport_quiet=yes\nreport_url=file:/x\n"
-        self.write("fixed", text)
-        words = (TOOL, "-c", "fixed", "old.db")
-        self.assertEqual(self.call(*words, "new.db").output, MINIMAL)
-        self.assertEqual(self.call(*words, "new.db", "-A", "report_base16=yes").output, MINIMAL)
-        self.assertEqual(self.call(*words, "new.db", "-A", "report_level=summary").output, MINIMAL)
-
-    def test_places(self) -> None:
-        """A configuration that includes files is refused, and none is read; one of a person is read
-        whatever the umask is."""
-        self.write("conf", "report_level=summary\n@@include /etc/aide.d/x\n")
-        refused = b"aide: config:2: left out of this profile\n"
-        self.refused(17, refused, TOOL, "-c", "conf", "old.db", "new.db")
-        self.write("conf", "report_level=summary\n")
-        self.compared("-c", "conf", "old.db", "new.db", before=UMASK % 0o77)

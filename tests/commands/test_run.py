@@ -3,7 +3,6 @@ from __future__ import annotations
 
 import gzip
 import os
-import re
 import subprocess
 import time
 from typing import Any
@@ -11,7 +10,7 @@ from typing import Any
 from tests.lib.answer import Answer
 
 from . import test_standings as standings
-from .sandbox import COUNTS, DIFFER, END, HEAD, NEW, OLD, UMASK, CommandTest, sha256
+from .sandbox import COUNTS, DIFFER, END, NEW, OLD, UMASK, CommandTest, sha256
 
 KINDS = ["added", "removed", "changed"]
 NAMES = "old_sha256 new_sha256 old new old_written new_written error".split()
@@ -20,7 +19,6 @@ COLUMNS = ["skipped_old", "skipped_new"]
 KEYS = ["format", "date", "status", "time", *KINDS, *NAMES, *MORE.split(), *COLUMNS]
 ALL_KEYS = KEYS + list(standings.COUNTS)  # With the counts of the standings.
 TOOL = "aide-compare compare --report"
-DATE = r"\d{4}-\d\d-\d\dT\d\d:\d\d:\d\dZ"
 MINIMAL = b"AIDE found differences between the two databases.\n"
 
 
@@ -63,101 +61,24 @@ class RunTest(CommandTest):
             self.expect("full errors", self.call(TOOL, "old.db", "other.db", stderr=full), 24, b"")
             answer = self.run_tool(stdout=full)
         self.expect("a full output", answer, 18, b"", b"aide-compare: cannot write the report")
-        self.write("column.db", NEW.replace(b"perm size", b"perm odd"))
-        answer = self.call(TOOL, "old.db", "column.db")
-        skipped = b"aide: new database: column 4 skipped\n"
-        self.expect("a skipped column", answer, 7, None, skipped)
-        self.write("stubs/down.gz", gzip.compress(OLD))
-        answer = self.call(TOOL, "stubs/down", "new.db")
-        self.expect("a file beside the missing one is not taken", answer, 18, b"", b"cannot open")
-        self.expect("--help", self.call(TOOL, "--help"), 0, b"usage: aide-compare", b"")
-
-    def test_names(self) -> None:
-        quoted = 'it\'s "$HOME" `x` *'
-        odd = os.fsdecode(b"\xff\x01")
-        names = ["with blank", "é", "-dash", "end ", "back\\slash", "@@{X}", "two\nlines"]
-        for name in (*names, quoted, odd):
-            self.write("odd/old " + name, OLD)
-            self.write("odd/" + name, gzip.compress(NEW))
-            answer = self.call(TOOL, "odd/old " + name, "./odd/" + name, "--state", "state")
-            self.expect("the name %r" % name, answer, 7, b"Changed entries:         2", DIFFER)
-            printed = "".join(
-                "\\%03o" % byte if byte < 32 or byte in (92, 127, 255) else chr(byte)
-                for byte in os.fsencode("./odd/" + name)
-            )
-            given = self.state()["new"].encode("utf-8", "surrogateescape").decode("latin-1")
-            self.assertEqual(given, printed, "the name %r in the state" % name)
-        new = self.path("bin/../../") + os.path.basename(self.root) + "/new.db"
-        answer = self.call(TOOL, "odd/../old.db", new)
-        said = b"aide-compare: old database: odd/../old.db, written "
-        self.expect("a name with ..", answer, 7, b"Old database: /proc/self/fd/3\n", [said])
-        errors = self.call(TOOL, "odd/old é", "new.db").errors.decode()
-        line = "aide-compare: %s database: %s, written " + DATE + ", SHA-256 %s\n"
-        lines = line % ("old", "odd/old é", sha256(OLD)) + line % ("new", "new.db", sha256(NEW))
-        self.assertRegex(errors, rf"\A{lines}\Z")
-        self.expect("the same", self.call(TOOL, "old.db", "old.db.gz"), 0, b"NO differences")
-        self.write("paths.db", HEAD + b"/a%0Ab%20c 36 100644 1\n" + END)
-        answer = self.call(TOOL, "old.db", "paths.db")
-        self.expect("a newline in a path", answer, 3, b": /a\\012b c\n")
-
-    def test_configurations(self) -> None:
-        """The options of a configuration count, and the databases that it names do not."""
-        text = "database_in=file:/no\ndatabase_new=file:/no\nreport_ignore_changed_attrs=s"
-        self.write("conf", text)
-        answer = self.run_tool("-c", "conf")
-        self.expect("options of a configuration", answer, 7, b"Changed entries:         1")
-        self.write("conf", "#" * 4194305)
-        said = b"the configuration conf has more than 4194304 bytes"
-        self.expect("a long one", self.run_tool("-c", "conf"), 18, b"", said)
-        os.remove(self.path("conf"))
-        self.expect("none", self.run_tool("-c", "conf"), 18, b"", b"cannot open the configuration")
 
     def test_arguments(self) -> None:
         option = "report_level=minimal"
-        for words in (
-            ["-A", option],
-            ["-A" + option],
-            ["-A=" + option],
-            ["--after", option],
-            ["--after=" + option],
+        self.write("-A", OLD)
+        for words, text in (
+            (["-A" + option, "old.db", "new.db"], None),
+            (["--after=" + option, "old.db", "new.db"], None),
+            (["-A", option, "-", "new.db"], OLD),
+            (["-A", option, "old.db.gz", "-"], gzip.compress(NEW)),
+            (["-A", option, "--", "-A", "new.db"], None),
         ):
-            answer = self.run_tool(*words)
+            answer = self.call(TOOL, *words, text=text)
             self.assertEqual((answer.status, answer.output), (7, MINIMAL), (words, answer))
-        packed = gzip.compress(NEW)
-        for operands, text in (
-            (["-", "new.db"], OLD),
-            (["old.db.gz", "-"], packed),
-            (["--", "-A", "new.db"], None),
-            (["--", "--json", "new.db"], None),
-        ):
-            self.write("-A", OLD)
-            self.write("--json", OLD)
-            answer = self.call(TOOL, "-A", option, *operands, text=text)
-            self.assertEqual((answer.status, answer.output), (7, MINIMAL), (operands, answer))
         answer = self.call(TOOL, "-", "-", text=OLD)
         self.expect("standard input twice", answer, 15, b"", b"only one database")
         answer = self.run_tool("-A", "database_in=file:/no")
         report = self.run_tool().output
         self.expect("the databases of the command line win", answer, 7, report, DIFFER)
-
-    def test_wrong_arguments(self) -> None:
-        for words in (["old.db"], ["old.db", "new.db", "x"]):
-            self.expect("%s" % words, self.call(TOOL, *words), 15, b"", b"databases")
-        for words in (
-            ["--", "-D"],
-            ["--", "-c", "x"],
-            ["-A"],
-            ["-A", "a", "--after=b"],
-            ["--max-size"],
-            ["--max-size", "1x"],
-            ["--max-size", "-1"],
-            ["--max-size", "9" * 16],
-            ["--user", "no such user"],
-            ["--state", ""],
-            ["--state", "-"],
-            ["--odd"],
-        ):
-            self.expect("%s" % words, self.run_tool(*words), 15, b"", b"aide-compare: ")
 
     def test_state(self) -> None:
         before = int(time.time())
@@ -204,63 +125,3 @@ class RunTest(CommandTest):
         before = self.read("state")
         self.call(TOOL, "--state", "state", "old.db")
         self.assertEqual(self.read("state"), before, "bad arguments leave the state")
-
-    def test_counts(self) -> None:
-        """The counts of a state are those of the comparison, whatever the report shows; and a
-        state changes no report."""
-        self.write("quiet", "report_quiet=yes\nreport_level=minimal\nreport_grouped=no\n")
-        fixed = "report_level=minimal\nreport_ignore_changed_attrs=p\n report_url = stdout\n"
-        self.write("fixed", fixed + "report_level=summary\nreport_ignore_changed_attrs=s+p\n")
-        self.write("named", "@@define N report_url\nreport_level=minimal\n@@{N}=stdout\n")
-        for words, changed in (
-            (["-c", "quiet"], "2"),
-            (["-c", "fixed"], "2"),
-            (["-c", "named"], "2"),
-            (["-A", "report_level=minimal\nreport_url=stdout"], "2"),
-            (["-A", "report_ignore_changed_attrs=s"], "1"),
-            (["-A", "report_level=added_removed_entries\nreport_base16=yes"], "2"),
-        ):
-            plain = self.run_tool(*words)
-            answer = self.run_tool("--state", "state", *words)
-            state = self.state()
-            self.assertEqual([state[key] for key in KINDS], ["1", "1", changed], words)
-            self.expect("the report with %s" % words, answer, plain.status, plain.output)
-            self.assertEqual(answer.output, plain.output)
-            self.assertTrue(answer.errors.startswith(plain.errors), answer)
-
-    def test_runs(self) -> None:
-        """Each program compares once: one for the changes, and one for the report if that is
-        printed."""
-        for program, name in ((self.program, "aide"), (self.lines_program, "aide_lines")):
-            os.rename(program, program + ".away")
-            text = 'echo "%s$1" >> "%s"; exec "%s.away" "$@"' % (name, self.path("ran"), program)
-            self.stub(name, text, "libexec/aide-compare")
-        names = [self.path(name) for name in ("old.db", "new.db")]
-        self.write("etc/defaults", f"--databases {' '.join(names)}\n")
-        pair, state = ["old.db", "new.db"], ["--state", "state"]
-        minimal = [*state, "-A", "report_level=minimal", *pair]
-        for words, runs in (
-            (["--report", *pair], ["aide_lines-E", "aide-E"]),
-            (["-q", *pair], ["aide_lines-E"]),
-            (["--report", "-q", *pair], ["aide_lines-E"]),
-            (["--report", *state, *pair], ["aide_lines-E", "aide-E"]),
-            ([*state, *pair], ["aide_lines-E"]),
-            (pair, ["aide_lines-E"]),
-            (minimal, ["aide_lines-E", "aide-E"]),
-            ([*state, "-q", *pair], ["aide_lines-E"]),
-            (["-q", *state], ["aide_lines-E"]),
-        ):
-            self.write("ran", "")
-            answer = self.call("aide-compare", *words)
-            self.assertEqual(self.read("ran").decode().split(), runs, (words, answer))
-            self.assertEqual(answer.status, 7, answer)
-
-    def test_at_once(self) -> None:
-        """Runs at once leave one whole state, and nothing else."""
-        words = ("old.db", "new.db", "--state", "state")
-        runs = [self.start(TOOL, *words) for _ in range(6)]
-        reports = {run.communicate()[0] for run in runs}
-        self.assertEqual((len(reports), {run.returncode for run in runs}), (1, {7}), reports)
-        self.assertEqual(list(self.state()), ALL_KEYS)
-        self.assertEqual(self.leftovers(), [])
-        self.assertFalse([name for name in os.listdir(self.root) if re.match(r"state\.", name)])

@@ -5,7 +5,6 @@ import gzip
 import os
 import random
 import re
-import signal
 import subprocess
 import sys
 from typing import Any
@@ -14,7 +13,6 @@ from tests.commands.units import TOP
 from tests.commands.sandbox import CommandTest
 from tests.lib.answer import Answer
 from tests.lib.program_test import slow
-from tests.lib.waiting import until
 from tests.oracle.fields import decoded
 
 COMMAND = [os.path.join(TOP, "commands", "bin", "aide-compare"), "sort"]
@@ -69,15 +67,6 @@ def write_large(path: str, count: int) -> None:
         for number in range(count):
             file.write(b"36 /usr/%07d/%s 1\n" % (number * 7919 % count, b"x" * 180))
         file.write(END)
-
-
-def private_files(process: subprocess.Popen[bytes]) -> int:
-    """How many files without a name a process has open."""
-    folder = "/proc/%d/fd/" % process.pid
-    try:
-        return sum(os.readlink(folder + name).endswith(" (deleted)") for name in os.listdir(folder))
-    except OSError:
-        return 0
 
 
 class SortingTest(CommandTest):
@@ -169,21 +158,3 @@ class SortingTest(CommandTest):
         bomb = gzip.compress(bytes(300000000), 1)
         said = b"more than 20971520 bytes unpacked"
         self.expect("300 MB of zeros", self.measured(bomb, "--max-size", "20M"), 18, b"", said)
-        for number in (signal.SIGTERM, signal.SIGINT, signal.SIGHUP, signal.SIGKILL):
-            self.check_signal(path, number)
-
-    def check_signal(self, path: str, number: int) -> None:
-        """Ended while it sorts, when it has a copy of the database and some runs, it ends at once,
-        and nothing is left."""
-        process = subprocess.Popen(
-            [*COMMAND, path],
-            stdout=subprocess.PIPE,
-            stderr=subprocess.DEVNULL,
-            env=self.surroundings(),
-        )
-        has_runs = until(lambda: private_files(process) > 3, 120)
-        process.send_signal(number)
-        assert process.stdout
-        process.stdout.close()
-        got = has_runs, process.wait(60), self.leftovers()
-        self.assertEqual(got, (True, -number, []), "sort: signal %d" % number)

@@ -5,13 +5,15 @@ import fcntl
 import gzip
 import hashlib
 import os
+import signal
 from typing import Union
 from unittest import mock
 
 from tests.commands.units.calls import OTHER, PlacesTest
 
-from aide_compare.base import files, program
+from aide_compare.base import files, processes, program
 from aide_compare.base.directories import ANYBODY, open_directory
+from aide_compare.base.ending import write_all
 from aide_compare.compare import unpack
 
 
@@ -113,16 +115,22 @@ class FilesTest(PlacesTest):
             self.gives(text, copied, "/dev/fd/%d" % reading)
             os.close(reading)
 
-    def test_installed(self) -> None:
-        """The program is found beside the modules of the commands, as they are installed."""
-        for library in ("lib/aide-compare/python", "lib"):
-            module = self.path(f"stubs/{library}/aide_compare/base/program.py")
-            with mock.patch.object(program, "__file__", module):
-                told = "cannot find " + self.root
-                self.fails(18, told, program.find_installed, program.PROGRAM)
-                place = self.stub("libexec/aide-compare/aide", "exit 0")
-                self.gives(place, program.find_installed, program.PROGRAM)
-            os.remove(place)
+    def test_no_end(self) -> None:
+        """What waits for a device gives up: a write that takes nothing three times, and the end of
+        a child that was killed."""
+        with mock.patch.object(os, "write", return_value=0):
+            with self.assertRaisesRegex(OSError, "the device takes no bytes"):
+                write_all(1, b"x")
+        with mock.patch.object(os, "write", side_effect=[0, 1, 0, 1, 0, 1]):
+            write_all(1, b"xyz")
+        child = os.fork()
+        if not child:
+            os.setpgid(0, 0)
+            signal.pause()
+        with mock.patch.multiple(processes, STOP_SECONDS=0.2):
+            with mock.patch.object(os, "waitpid", return_value=(0, 0)):
+                self.gives(None, processes.stop, child)
+        os.waitpid(child, 0)
 
     def test_programs(self) -> None:
         old, new = files.nameless(self.root), files.nameless(self.root)
@@ -139,21 +147,8 @@ class FilesTest(PlacesTest):
             kept = bytearray()
             ended = program.run_program(path, ["a b"], given, kept.extend)
             self.expect("the descriptors", (*ended, bytes(kept)), (5, b"why\n", want))
-        kept = bytearray()
-        drain = program.Drain(6, kept.extend)
-        program.run_program(path, ["a b"], {3: old, 4: new}, drain.take)
-        for block in (b"1234", b"5"):
-            drain.take(block)
-        self.expect("a report that is cut", (bytes(kept), drain.size), (b"old\nne", 19))
         others = fcntl.fcntl(old, fcntl.F_DUPFD, 50)  # That programs inherit, as some of a shell.
         self.addCleanup(os.close, others)
         body = f"[ -e /proc/self/fd/{others} ] && exit 1; exit 0"
         ended = program.run_program(self.stub("aide", body), [], {3: new, 4: old}, len)
         self.expect("no other descriptors", ended, program.Answer(0, b""))
-        for body, why in (
-            ("kill -9 $$", "was ended by signal 9"),
-            ("exit 99", "could not be run: status 99"),
-        ):
-            self.fails(
-                18, why, program.run_program, self.stub("aide", body), [], {3: old, 4: new}, len
-            )
