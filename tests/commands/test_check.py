@@ -42,13 +42,6 @@ class CheckTest(StateTest):
         numbers = "|added=1 removed=1 changed=2 open=4 "
         self.check("a real state", 1, ": 1 added, 1 removed, 2 changed" + numbers)
 
-    def test_check_rights(self) -> None:
-        self.needs_root()
-        state = self.put()
-        self.check("an unprivileged user", 0, "no difference", before=AS_NOBODY)
-        os.chmod(state, 0o600)
-        self.check("no right", 3, "cannot open the state file", before=AS_NOBODY)
-
     def test_check_faults(self) -> None:
         self.put(status=24, error="a|b=1;2\x01\x1b[0m|" + "é" * 4000, **NOTHING)
         said = "no comparison, status 24: a!b=1;2\\001\\033[0m!"
@@ -61,8 +54,7 @@ class CheckTest(StateTest):
         self.check("one that may not be", 3, "older than 10 seconds", words=["--max-age=10"])
         self.put(age=-4000)
         self.check("a state from the future", 3, "in the future")
-        arguments = ["--max-age"], ["--max-age", "x"], ["--max-age", "31d"], ["--odd|\n"]
-        for words in (*arguments, ["--state"], ["--state", ""]):
+        for words in (["--max-age", "31d"], ["--odd|\n"], ["--state", ""]):
             self.check(f"the arguments {words}", 3, words=words)
 
     def test_check_files(self) -> None:
@@ -72,11 +64,9 @@ class CheckTest(StateTest):
         for label, text in (
             ("nothing", ""),
             ("half", whole[:40]),
-            ("no end", whole[:-7]),
             ("counts that are not of the status", whole.replace('"added": 0', '"added": 1')),
             ("deep", "[" * 60000),
             ("a list", "[]"),
-            ("NUL", whole.replace("status", "\0")),
         ):
             self.assertNotEqual(text, whole, label)
             self.write("state", text)

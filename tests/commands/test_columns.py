@@ -57,34 +57,22 @@ class ColumnsTest(CommandTest):
         """Each form of the status has the names."""
         for name in ("odd.db", "twin.db"):
             self.write(name, with_column(OLD.replace(b"fstype", b'a"b'), b"c\\d"))
-        for databases, told, labels, names in (
-            (("o.db", "same.db"), FSTYPE.encode(), [b"fstype"], ["fstype"]),
-            (
-                ("odd.db", "twin.db"),
-                b'the columns a"b, c\\134d are not compared',
-                [b'a\\"b', b"c\\\\134d"],
-                ['a"b', "c\\134d"],
-            ),
-        ):
-            self.call(TOOL, *STATE, *databases)
-            self.answered(0, b"AIDE OK: no difference; %s|" % told, b"", CHECK, *STATE)
-            gauges = [b'\naide_compare_skipped_column{name="%s"} 1\n' % label for label in labels]
-            self.answered(0, gauges, b"", STATUS + "prometheus", *STATE)
-            whole = json.loads(self.call(STATUS + "json", *STATE).output)
-            self.assertEqual((whole["skipped_old"], whole["skipped_new"]), (names, names))
-        self.call(TOOL, *STATE, "o.db", "odd.db")
-        for tool in (CHECK, STATUS + "text"):
-            text = self.call(tool, *STATE).output
-            self.assertIn(b'the columns fstype, a"b, c\\134d are not compared', text, tool)
+        self.call(TOOL, *STATE, "odd.db", "twin.db")
+        told = b'the columns a"b, c\\134d are not compared'
+        self.answered(0, b"AIDE OK: no difference; %s|" % told, b"", CHECK, *STATE)
+        self.answered(0, told, b"", STATUS + "text", *STATE)
+        labels = (b'a\\"b', b"c\\\\134d")
+        gauges = [b'\naide_compare_skipped_column{name="%s"} 1\n' % label for label in labels]
+        self.answered(0, gauges, b"", STATUS + "prometheus", *STATE)
+        whole = json.loads(self.call(STATUS + "json", *STATE).output)
+        self.assertEqual(whole["skipped_old"], ['a"b', "c\\134d"])
 
     def test_names(self) -> None:
         """Names of others are escaped and cut, and of a spec line that is too far away there are
         numbers only."""
         for name, told in (
-            (b"\x1b[31m", b"the column \\033[31m is"),
-            (b"\xe2\x80\xae", b"the column \\342\\200\\256 is"),
+            (b"\x1b[31m\xe2\x80\xae", b"the column \\033[31m\\342\\200\\256 is"),
             (b"n" * 90, b"the column " + b"n" * 40 + b"... is"),
-            (b"fstype\r", b"the column fstype\\015 is"),
         ):
             for file in ("odd.db", "twin.db"):
                 self.write(file, OLD.replace(b"fstype", name))

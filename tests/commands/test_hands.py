@@ -6,25 +6,16 @@ import os
 import shlex
 from typing import Any
 
-from tests.lib.scratch import read
 
 from . import mail
 from . import test_standings as standings
 from .sandbox import CommandTest, NOBODY, Texts
+from .test_one_truth import started
 
 TOOL, NAGIOS = "aide-compare", "check_aide_compare"
-LONG_HEAD = b"@@begin_db\n@@db_spec name attr perm uid gid size\n"
-COUNTED = ("added", "removed", "changed", "left_out", *standings.COUNTS)
 NIGHT = ("o.db", "n.db")
 # A program in place of the proved one, which notes whose rights it has.
 NOTES = 'case $1 in -E) echo "$(id -u) $$" >> %s;; esac\nexec %s "$@"'
-
-
-def started(unit: str) -> list[str]:
-    """The words that a unit starts, without the program."""
-    lines = read(f"contrib/systemd/{unit}").splitlines()
-    line = next(line for line in lines if line.startswith("ExecStart="))
-    return shlex.split(line.partition("=")[2])[1:]
 
 
 class HandsTest(CommandTest):
@@ -43,15 +34,14 @@ class HandsTest(CommandTest):
 
     def of_unit(self, unit: str, **variables: str) -> Any:
         """The mail that a unit's own words send, with no environment but what is given."""
-        words = [self.path("queue") if "/mail" in word else word for word in started(unit)]
+        words = [
+            self.path("queue") if "/mail" in word else word
+            for word in started(f"systemd/{unit}", "ExecStart")
+        ]
         command = self.command(TOOL, *words)
         child = os.posix_spawn(command[0], command, variables)
         self.assertEqual(os.waitstatus_to_exitcode(os.waitpid(child, 0)[1]), 0, unit)
         return mail.sent(self)
-
-    def counts_in(self, state: str) -> dict[str, str | None]:
-        values = self.state(state)
-        return {name: values.get(name) for name in COUNTED}
 
     def test_failed_unit(self) -> None:
         """The unit that is started after a failure mails it, with or without systemd's
@@ -70,23 +60,13 @@ class HandsTest(CommandTest):
             self.assertEqual(mail.body(message), (failed % cause).encode())
         self.assertIsNone(self.of_unit("aide-compare-mail.service"), "a success mails no failure")
 
-    def test_same_counts(self) -> None:
-        """A run by hand and a mail have the same counts, by the same defaults. The check judges by
-        the same lines."""
-        lines = "  --mail-time=9s \n--to a@b.example\n--weekly Mon\n--warning 99\n--max-age 5d\n"
-        self.prepare(lines)
+    def test_defaults(self) -> None:
+        """A run by hand, a mail and the check go by the same lines."""
+        self.prepare("  --mail-time=9s \n--to a@b.example\n--critical 99\n--warning 98\n")
         told: list[bytes] = [b"1 open (1 high), 1 recorded of 6 changes", b"by /srv/* ("]
         self.answered(5, None, told, TOOL, "-v", "--state", "hand.state", *NIGHT)
-        want = self.counts_in("hand.state")
-        self.assertEqual((want["open"], want["left_out"]), ("1", "3"))
-        self.assertEqual(self.mails(5, "--state", "of.state", *NIGHT)["To"], "a@b.example")
-        self.assertEqual(self.counts_in("of.state"), want)
-        message = self.mails(5, *NIGHT)
-        self.assertEqual(message["To"], "a@b.example", "a mail by hand needs no state")
+        self.assertEqual(self.mails(5, *NIGHT)["To"], "a@b.example", "it needs no state")
         check = (NAGIOS, "--state", "hand.state")
-        told_by_check = b"AIDE CRITICAL: 1 open (1 high), 1 recorded of 6 changes"
-        self.answered(2, told_by_check, b"", *check)
-        self.write("etc/defaults", "--critical 99\n--warning 98\n")
         self.answered(0, b"AIDE OK: ", b"", *check)
         self.answered(2, None, b"", *check, "--no-defaults")
         answer = self.call(TOOL, "--no-defaults", *NIGHT)
@@ -100,16 +80,14 @@ class HandsTest(CommandTest):
         """The command that a mail prints makes the page of the same changes, and leaves no
         state."""
         self.prepare("--to a@b.example\n")
-        lines = (b"/m/%s%04d 60 100644 0 0 1\n" % (b"x" * 250, number) for number in range(4000))
-        self.write("long.db", LONG_HEAD + b"".join(lines) + b"@@end_db\n")
-        message = self.mails(3, "--state", "of.state", "o.db", "long.db")
+        message = self.mails(5, "--state", "of.state", *NIGHT)
         shown = mail.body(message).decode().partition(" (with the options of this job):\n    ")[2]
         command = shown.replace(" \\\n      ", " ").partition(" > ")[0]
         self.assertTrue(command.startswith("aide-compare page "), shown)
         self.assertNotIn("--state", command)
         os.remove(self.path("of.state"))
-        page: list[bytes] = [b"xxxx3999", b"</html>"]
-        self.answered(3, page, None, TOOL, *shlex.split(command)[1:])
+        page: list[bytes] = [b"/usr/.x y", b"</html>"]
+        self.answered(5, page, None, TOOL, *shlex.split(command)[1:])
         self.assertFalse(os.path.exists(self.path("of.state")))
 
     def refused_defaults(self, name: str, said: bytes) -> None:
@@ -143,16 +121,6 @@ class HandsTest(CommandTest):
                 os.remove(self.path("etc/" + name))
         os.symlink(self.path("nothing"), self.path("etc/defaults"))
         self.refused(18, None, TOOL, *NIGHT)
-
-    def test_bad_values(self) -> None:
-        """A value that a mail cannot use costs no mail, and the mail says it."""
-        for line, said in (("--mail-time never", b"--mail-time"), ("--to é", b"address")):
-            self.prepare(line + "\n")
-            self.mails(7, "--no-defaults", *NIGHT)
-            answer = mail.call(self, *NIGHT)
-            self.assertNotEqual(answer.status, 0, line)
-            self.assertIn(said, mail.body(mail.sent(self)), line)
-            self.answered(0, None, said, "aide-compare mail", "--send-queue", "queue")
 
     def put_baseline(self) -> None:
         """A baseline in a folder of another user, who alone can read it."""

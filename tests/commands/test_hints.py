@@ -3,7 +3,7 @@ from __future__ import annotations
 
 import gzip
 
-from .sandbox import CommandTest, END, HEAD, NEW
+from .sandbox import CommandTest, NEW
 
 TOOL = "aide-compare compare --report"
 NAME = "hints é\n.db"
@@ -27,8 +27,6 @@ class HintsTest(CommandTest):
         self.hinted(NEW.replace(b"644 5", b"644 5x"), fault, b"line 3: /a 36 100644 5x\n")
         told = b"line 3: /a 36 100644\\011 \\0115x\n"
         self.hinted(NEW.replace(b"644 5", b"644\t \t5x"), told)
-        told = b"line 3: /a 36 100644 \\033[31m\\134\\177\n"
-        self.hinted(NEW.replace(b"644 5", b"644 \x1b[31m\\\x7f"), told)
         letters = "é".encode()
         told = b"line 3: /a 36 100644 " + letters * 187 + b"...\n"
         self.hinted(NEW.replace(b"644 5", b"644 " + letters * 900), told)
@@ -36,7 +34,6 @@ class HintsTest(CommandTest):
         self.hinted(
             NEW.replace(b"/a ", b"/x "), *order, b"damaged: make it anew", b"aide-compare sort"
         )
-        self.hinted(HEAD + b"@@db_spec name size\n/a x\n" + END, b"line ")
         other = (b"line 1: root:x:0:0\n", b"not an AIDE database")
         self.hinted(b"root:x:0:0\n", b"no @@begin_db\n", *other)
 
@@ -48,8 +45,7 @@ class HintsTest(CommandTest):
 
     def test_packed(self) -> None:
         """What does not begin as a database may be packed, and is not quoted then."""
-        beginnings = (b"\xfd7zXZ\0", b"\x28\xb5\x2f\xfd", b"BZh9", b"\xef\xbb\xbf")
-        for text in (*(each + NEW for each in beginnings), gzip.compress(gzip.compress(NEW))):
+        for text in (b"\xfd7zXZ\0" + NEW, gzip.compress(gzip.compress(NEW))):
             told = self.hinted(text)
             self.assertIn(SHOWN + b"; it is not an AIDE database, ", told.splitlines()[1])
             self.assertNotIn(b"line 1:", told)
@@ -61,7 +57,6 @@ class HintsTest(CommandTest):
             ("\n report_lvel=minimal", unknown),
             ("@@ifhost x", [b"config:1: left out of this profile\n", b"line 1: @@ifhost x\n"]),
             ("a\x1b[1m\x80", [b"line 1: a\\033[1m"]),
-            ("\nreport_level=x", [b"aide: config:2: bad value\n", b"line 2: report_level=x\n"]),
         ):
             self.write("odd conf", text)
             words = ("-A", "report_level=summary", "old.db", "new.db")

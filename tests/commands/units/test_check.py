@@ -7,7 +7,6 @@ from unittest import mock
 
 from tests.commands.units.calls import ModuleTest
 
-from aide_compare.base import parser
 from aide_compare.base.kinds import alarm_limit
 from aide_compare.commands import status as status_command
 from aide_compare.compare.state import DAILY
@@ -68,10 +67,4 @@ class CheckTest(ModuleTest):
             self.gives(UNKNOWN, status_command.check, ["--state", "x" * 500])
             line = f"AIDE UNKNOWN: there is no {'x' * 500}"
             self.assertEqual(told.call_args[0][0], line[: len("AIDE UNKNOWN: ") + 300])
-        with mock.patch.object(parser, "write_all") as written:
-            self.gives(UNKNOWN, status_command.check, ["--help"])
-        shown = " ".join(written.call_args[0][1].decode().split())
-        parts = ["state file that aide-compare wrote", "older result counts"]
-        for text in (*parts, " ".join(status_command.EPILOG.split())):
-            self.assertIn(text, shown)
         self.assertEqual(status_command.request_of(["--no-defaults"]).state, DAILY)
