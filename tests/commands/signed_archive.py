@@ -60,7 +60,6 @@ class Built:
         self.architecture = architecture
         self.files: Dict[bytes, Tuple[bytes, int]] = {}
         self.links: Dict[bytes, bytes] = {}
-        self.scripts: Dict[str, bytes] = {}
         self.fields = ""
         self.more = 0  # Bytes of a last part, which dpkg passes over.
 
@@ -72,11 +71,6 @@ class Built:
         self.links[path] = target
         return self
 
-    def script(self, name: str, text: bytes) -> Built:
-        """A script that dpkg runs."""
-        self.scripts[name] = text
-        return self
-
     def build(self, sandbox: CommandTest) -> None:
         """Makes its file in the mirror, and what an index says of it."""
         tree = sandbox.path("tree")
@@ -86,8 +80,6 @@ class Built:
         control += f"Architecture: {self.architecture}\nMaintainer: T <t@example.org>\n"
         sandbox.write("tree/DEBIAN/control", (control + "Description: trial\n").encode())
         sandbox.write("tree/DEBIAN/md5sums", sums_of(self.version))
-        for name, text in self.scripts.items():
-            os.chmod(sandbox.write(f"tree/DEBIAN/{name}", text), 0o755)
         if CONFIGURATION in self.files:
             sandbox.write("tree/DEBIAN/conffiles", CONFIGURATION + b"\n")
         for path, (content, mode) in self.files.items():

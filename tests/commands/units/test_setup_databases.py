@@ -26,7 +26,6 @@ NAMED = {
     BOTH: ["/a", "/c"],
     DEBIAN + BOTH + DEBIAN: ["/a", "/c"],
     BOTH.replace("_new", "_out"): ["/a", "/c"],
-    BOTH.replace("_in", ""): ["/a", "/c"],
     BOTH + "database_out=file:/no\n": ["/a", "/c"],
     BOTH.replace("/a", "/@@{HOSTNAME}.db"): ["/www-1.db", "/c"],
     DEFINED + "\tdatabase_new=file:/d/new\t\n": ["/d/old", "/d/new"],
@@ -34,12 +33,9 @@ NAMED = {
 }
 REFUSED = (
     "",
-    "gzip_dbout=yes\n",
     "database_in=file:/a\n",
-    "database_out=file:/c\n",
     BOTH + "database_in=file:/b\n",
     "database=file:/b\n" + BOTH,
-    BOTH + " database_new = file:/b\n",
     "database_in=file:/a\ndatabase_out=file:/b\ndatabase_out=file:/c\n",
     "database_in=file:/a b\ndatabase_new=file:/c\n",
     "database_in=file:/a\ndatabase_out=stdout\n",
