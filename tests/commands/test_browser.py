@@ -53,11 +53,9 @@ SEARCHED = """(async () => { const before = document.getElementById('found').tex
   while (document.getElementById('found').textContent === before)
     await new Promise((done) => setTimeout(done, 20));
   document.body.offsetHeight; })()"""
-# The buttons that are pressed, and whether all entries that were changed have another content.
+# The buttons that are pressed.
 PRESSED = """[...document.querySelectorAll('.choices [aria-pressed=true]')].map(
   (one) => one.lastChild.textContent.trim())"""
-DIGESTS = """[...document.querySelectorAll('#list b.changed ~ i')].every(
-  (one) => one.textContent.includes('content'))"""
 DARK = [{"name": "prefers-color-scheme", "value": "dark"}]
 ADDED = (
     '<script>document.title = "ran"</script><p id="loud" style="color: red" onclick="1">'
@@ -173,9 +171,6 @@ class BrowserTest(CommandTest):
         self.shows(FOUND, f"{count} of {total} entries")
         self.shows(number_of("#list b.removed"), count)
         self.shows(number_of("#list b[class]:not(.removed)"), 0)
-        self.click("#kind button", "removed")
-        self.click("#attribute button", "content")
-        self.shows(DIGESTS, True)
         self.click("#clear")
         self.search("ETC/")
         self.shows(FOUND, f"4 of {total} entries")
@@ -292,13 +287,6 @@ class BrowserTest(CommandTest):
         breaches = [one for one in self.browser.faults if "Content Security Policy" in one]
         self.assertGreaterEqual(len(breaches), 3)
         self.browser.faults.clear()
-
-    def test_without_script(self) -> None:
-        """What matters most is there, and why there is no more."""
-        path = self.page(upgrade())
-        self.browser.ask("Emulation.setScriptExecutionDisabled", value=True)
-        self.browser.open(path)
-        self.assertEqual(self.browser.count_of("#digest pre"), 1)
 
     def test_many(self) -> None:
         """The processor's time that a page of many changes takes to be there, and to answer."""

@@ -48,7 +48,7 @@ class Browser:
         number = next(target["targetId"] for target in targets if target["type"] == "page")
         attached = self.ask("Target.attachToTarget", targetId=number, flatten=True)
         self.session = attached["sessionId"]
-        for domain in ("Page", "Runtime", "Log", "DOM"):
+        for domain in ("Page", "Runtime", "Log"):
             self.ask(domain + ".enable")
         self.ask("Performance.enable", timeDomain="threadTicks")
 
@@ -98,11 +98,6 @@ class Browser:
         """Seconds of the processor that the page's thread has worked."""
         metrics = self.ask("Performance.getMetrics")["metrics"]
         return float(next(each["value"] for each in metrics if each["name"] == "TaskDuration"))
-
-    def count_of(self, selector: str) -> int:
-        """How many elements there are; this asks no script of the page."""
-        root = self.ask("DOM.getDocument", depth=0)["root"]["nodeId"]
-        return len(self.ask("DOM.querySelectorAll", nodeId=root, selector=selector)["nodeIds"])
 
     def press(self, key: str, code: int) -> None:
         for kind in ("rawKeyDown", "keyUp"):
