@@ -17,7 +17,6 @@ ENDS = {"Success": "mail", "Failure": "failed"}
 
 
 class QueueTest(MailTest):
-
     def test_missing(self) -> None:
         """Without sendmail the status is 18, and the state is that of the comparison."""
         os.remove(self.path("stubs/sendmail"))
