@@ -6,6 +6,7 @@ import gzip
 import hashlib
 import os
 import signal
+import time
 from typing import Union
 from unittest import mock
 
@@ -127,9 +128,11 @@ class FilesTest(PlacesTest):
         if not child:
             os.setpgid(0, 0)
             signal.pause()
+        begun = time.monotonic()
         with mock.patch.multiple(processes, STOP_SECONDS=0.2):
             with mock.patch.object(os, "waitpid", return_value=(0, 0)):
                 self.gives(None, processes.stop, child)
+        self.assertLess(time.monotonic() - begun, 10)
         os.waitpid(child, 0)
 
     def test_programs(self) -> None:
