@@ -49,7 +49,7 @@ def page_over(objects: list[Fields], limit: int = MAX_PAGE) -> bytes:
     rows = Rows()
     for fields in sorted(changes_of(objects), key=order_of):
         marks = (fields.get(name, "") for name in Marks._fields)
-        rows.add(lines_of([fields]), Marks(*marks))
+        rows.add(json.dumps(fields).encode() + b"\n", Marks(*marks))
     database = {"side": "Old database", "name": "/a", "time": "", "sha256": "00"}
     heading: Fields = {"title": "File changes", "outcome": "", "databases": [database]}
     heading.update(counts=[["open", 1]], remarks=[], facts=[], lists=[])
