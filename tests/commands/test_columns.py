@@ -92,11 +92,14 @@ class ColumnsTest(CommandTest):
             self.assertRegex(message["Subject"], f": {re.escape(subject)}$")
 
     def test_mails(self) -> None:
-        """A mail tells a column once, also if nothing differs or all is silent; without a state
-        nobody would know of it."""
+        """A mail tells a column once, also if nothing differs or all is silent, and once more after
+        a run that compared nothing; without a state nobody would know of it."""
         mail.take_mail(self)
         self.mails("same.db", FSTYPE)
         self.mails("same.db", None)
+        self.expect("a run that fails", mail.call(self, *STATE, "o.db", "none.db"), 18, b"")
+        mail.sent(self)
+        self.mails("same.db", FSTYPE)
         self.mails("more.db", "the column new is not compared")
         self.mails("more.db", None)
         self.expect("a mail by hand", mail.call(self, "o.db", "same.db"), 0, b"", b"")
@@ -105,12 +108,3 @@ class ColumnsTest(CommandTest):
         self.write("odd.db", OLD.replace(b"fstype", b"\xc3\xa9:x").replace(b"4096", b"9"))
         silent = "1 change, all silent; the columns fstype, ??x are not compared"
         self.mails("odd.db", silent)
-
-    def test_failed(self) -> None:
-        """After a run that compared nothing a column is told once more."""
-        mail.take_mail(self)
-        self.mails("same.db", FSTYPE)
-        self.expect("a run that fails", mail.call(self, *STATE, "o.db", "none.db"), 18, b"")
-        mail.sent(self)
-        self.mails("same.db", FSTYPE)
-        self.mails("same.db", None)

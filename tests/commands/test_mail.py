@@ -61,9 +61,8 @@ class TextsTest(MailTest):
         self.assertEqual(call(self, "old.db", "new.db").status, 15)
         self.assertIn("this option cannot be a default: --odd", words_of(body(sent(self))))
         os.remove(self.path("etc/defaults"))
-        addresses = ["--to"], ["--to", ""], ["--to", "a\nBcc: b"], ["--to", "-x"], ["--to", "é"]
-        others = ["--mail-time", "x"], ["--weekly", "--", "x"], ["--state", "-"], ["--weekly=Foo"]
-        for words in (*addresses, *others, ["--odd"], ["--max-age", "x"], ["more"]):
+        addresses = ["--to", ""], ["--to", "a\nBcc: b"], ["--to", "-x"], ["--to", "é"]
+        for words in (*addresses, ["--weekly=Foo"], ["--mail-time", "x"], ["more"]):
             answer = call(self, "old.db", "new.db", *words)
             self.assertEqual((answer.status, sent(self)), (15, None), (words, answer))
 
