@@ -22,7 +22,6 @@ from tools.lib.arguments import add_program, parser_of
 EXPECTED = re.compile(
     "it needs root(, and unshare)?"
     "|it takes long"
-    "|only with AIDE_[A-Z]+=.*"
     "|not installed: [a-z -]+"
     "|nothing can be mounted here"
     "|no device can be made here"
