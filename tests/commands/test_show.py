@@ -2,7 +2,9 @@
 from __future__ import annotations
 
 import base64
+import unittest
 
+from tests.commands.viewers.pages import HAS_NODE, seen
 
 from .sandbox import CommandTest, END, HEAD
 
@@ -51,6 +53,31 @@ class ShowTest(CommandTest):
             "    ACL        user::rw-, group::r--, other::r-- -> none",
         ]
         self.assertEqual(answer.output.decode().splitlines(), wanted)
+
+    @unittest.skipUnless(HAS_NODE, "not installed: node")
+    def test_words(self) -> None:
+        """The brief, the page and show have one word for an attribute, and the page's row of a
+        set-ID program shows the mode."""
+        entry = b"/x 0 %d 100755 8 0 0 5 MTcwMDAwMDAwMA== 77 1 %s %s 0\n"
+        acl = b"POSIX," + base64.b64encode(b"user::rwx\ngroup::r-x\nother::r-x\n") + b",0"
+        digests = [base64.b64encode(bytes([number] * 32)) for number in range(2)]
+        old = entry % (ATTR, digests[0], b"0")
+        new = entry % (ATTR, digests[1], acl)
+        new = new.replace(b" 100755 8 0 0 5 ", b" 104755 8 1000 0 6 ").replace(b" 77 1 ", b" 77 2 ")
+        self.write("one.db", COLUMNS + old + END)
+        self.write("two.db", COLUMNS + new + END)
+        pair = ["one.db", "two.db"]
+        mode = "mode -rwxr-xr-x -> -rwsr-xr-x"
+        brief = self.call("aide-compare", *pair).output.decode()
+        words = f"/x: content, {mode}, owner root -> 1000, size 5 -> 6, links 1 -> 2, ACL\n"
+        self.assertIn(words, brief)
+        page = self.call("aide-compare page", *pair).output
+        rows = seen(page)["entries"]
+        self.assertEqual(rows[0]["about"], f"size +1, {mode}, owner 0 -> 1000, links, content, ACL")
+        names = ["size", "mode", "owner", "links", "ACL", "SHA256"]
+        self.assertEqual([row[0] for row in rows[0]["rows"]], names)
+        lines = self.call(TOOL, "/x", *pair).output.decode().splitlines()
+        self.assertEqual(sorted(line.split()[0] for line in lines[1:]), sorted(names))
 
     def test_names(self) -> None:
         """A path is given as it is on the disk or as it was printed, and none of its bytes is a
