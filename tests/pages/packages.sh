@@ -131,7 +131,7 @@ try_days() {
     check 'day 2: cron has run' cron_has_run
     check 'day 2: a mail with the counts' grep -q '^Subject: .*: 3 open .*of 3 changes$' "$mails"
     check 'day 2: the mail names the new file' grep -q '^ *added .*/srv/www/added by the intruder ü' "$mails"
-    check 'day 2: the check is CRITICAL' ends_with 2 as_nobody /usr/local/lib/nagios/plugins/check_aide_compare
+    check 'day 2: the check is WARNING' ends_with 1 as_nobody /usr/local/lib/nagios/plugins/check_aide_compare
     check "day 3: Debian's nightly run" nightly
     check 'day 3: cron has run' cron_has_run
     check 'day 3: the mail comes again' grep -q '^Subject: .*: 3 open ' "$mails"
@@ -140,14 +140,14 @@ try_days() {
     : > "$mails"
     check 'AIDE stops: cron has run' cron_has_run
     check 'AIDE stops: a mail says so' grep -q '^Subject: .*: no comparison (status 18)$' "$mails"
-    check 'AIDE stops: the state says why' grep -q '^error=.*aide.db.new is 3 days old, more than --max-age allows' "$state"
+    check 'AIDE stops: the state says why' grep -q '"error": ".*aide.db.new is 3 days old, more than --max-age allows' "$state"
     check 'AIDE stops: the check is UNKNOWN' ends_with 3 as_nobody /usr/local/lib/nagios/plugins/check_aide_compare
     check "AIDE runs again: Debian's nightly run" nightly
     check 'AIDE runs again: cron has run' cron_has_run
-    check 'AIDE runs again: the check is CRITICAL' ends_with 2 as_nobody /usr/local/lib/nagios/plugins/check_aide_compare
+    check 'AIDE runs again: the check is WARNING' ends_with 1 as_nobody /usr/local/lib/nagios/plugins/check_aide_compare
 }
 
-nagios_says() { grep -q 'plugin_output=AIDE CRITICAL: 3 open .*of 3 changes: 1 added, 1 removed, 1 changed' /var/lib/nagios4/status.dat; }
+nagios_says() { grep -q 'plugin_output=AIDE WARNING: 3 open .*of 3 changes: 1 added, 1 removed, 1 changed' /var/lib/nagios4/status.dat; }
 
 try_nagios() {
     if ! has nagios4; then
