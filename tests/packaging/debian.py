@@ -50,8 +50,9 @@ def try_texts(trial: InstallTest, folder: str) -> None:
     trial.assertEqual([str(done.status)], re.findall(r"ends with status (\d+)", readme), done)
     trial.assertRegex(done.output_text, r"\A[0-9]+ open .*of [0-9]+ changes\n")
     for name in re.findall(r"/(?:usr|etc)/[\w./-]*\w", readme):
-        # What the administrator or aide-compare setup makes for this machine is in no package.
-        if not name.startswith(("/etc/systemd/system/", "/etc/aide-compare/defaults")):
+        # What the administrator or aide-compare makes for this machine is in no package.
+        made = ("/etc/systemd/system/", "/etc/aide-compare/defaults", "/etc/aide-compare/hosts")
+        if not name.startswith(made):
             trial.assertTrue(os.path.exists(folder + name), "what README.Debian names: " + name)
 
 
