@@ -222,6 +222,16 @@ class HostsReportTest(CommandTest):
         self.assertIn("Too many levels", found["good2"]["error"])
         self.assertTrue(found["good3"]["error"])
 
+    def test_other_run(self) -> None:
+        """The lines that another run has kept are not believed to be those of the state."""
+        hosts = Hosts(self)
+        hosts.compared({"many": (OLD, NEW), "one": (database(), database(line(b"/a", b"1")))})
+        lines = [self.path(f"store/hosts/{name}/lines") for name in ("one", "many")]
+        shutil.copyfile(*lines)
+        found = hosts.objects()[1]
+        reports = [found[name]["report"] for name in ("one", "many")]
+        self.assertEqual(reports, ["whole", "unreadable"], found)
+
     def test_hostile_names(self) -> None:
         """Names that hosts have chosen: in the order of paths, exact in JSON, escaped in the text,
         and always last in a line."""
