@@ -129,7 +129,7 @@ try_days() {
     intrude
     check "day 2: Debian's nightly run" nightly
     check 'day 2: cron has run' cron_has_run
-    check 'day 2: a mail with the counts' grep -q '^Subject: .*: 3 open .*of 3 changes$' "$mails"
+    check 'day 2: a mail with the counts' wait_for 10 grep -q '^Subject: .*: 3 open .*of 3 changes$' "$mails"
     check 'day 2: the mail names the new file' grep -q '^ *added .*/srv/www/added by the intruder ü' "$mails"
     check 'day 2: the check is WARNING' ends_with 1 as_nobody /usr/local/lib/nagios/plugins/check_aide_compare
     check "day 3: Debian's nightly run" nightly
