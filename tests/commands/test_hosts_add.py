@@ -197,13 +197,18 @@ class HostsAddTest(CommandTest):
             self.assertEqual((said.status, files(self)), (15, {}), (words, said))
 
     def test_digest(self) -> None:
-        """With the digest of its database a host is added without a question, once."""
+        """With the digest of its database a host is added without a question, once. What failed
+        before is not said of it any more."""
         words = ("--sha256", sha256(OLD)[:16].upper(), "--hosts-file", self.path("etc-hosts"))
+        said = self.fleet.call("aide-compare hosts add", *words, "www")
+        self.assertEqual((said.status, files(self)), (18, {}), said)
         self.fleet.put("www", OLD, None)
         said = self.fleet.call("aide-compare hosts add", *words, "www")
         self.assertEqual((said.status, said.error_text), (0, ""), said)
         self.assertEqual(files(self), {"etc-hosts": "www\n", "www/aide.db": OLD.decode()})
         self.assertFalse(os.path.exists(self.path("known_hosts")), "ssh has not asked")
+        listed = self.fleet.call("aide-compare hosts list", self.path("etc-hosts")).output_text
+        self.assertEqual(listed, "www 18 was never compared\n")
         said = self.fleet.call("aide-compare hosts add", *words, "www")
         self.assertEqual((said.status, "a baseline already" in said.error_text), (24, True), said)
 

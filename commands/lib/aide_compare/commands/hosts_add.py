@@ -77,6 +77,7 @@ def add(request: AddRequest, host: str) -> int:
         directory.copy(NEW_FILE, BASELINE)
     except OSError as error:
         raise directory.fault(f"cannot keep its baseline: {write_cause(error)}")
+    directory.not_compared("was never compared")
     if not request.is_quiet:
         tell(f"{directory.host} is watched. Compare all hosts: aide-compare hosts compare")
     return Status.OK
