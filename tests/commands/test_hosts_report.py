@@ -183,7 +183,7 @@ class HostsReportTest(CommandTest):
         self.assertEqual((summary["not_compared"], summary["differ"], said.status), (7, 2, 18))
         for name, want in (
             ("unknown", "Host key verification failed"),
-            ("stale", "was compared 27 hours ago and not since"),
+            ("stale", "was not compared for 27 hours"),
             ("ahead", "in the future"),
             ("odd", "is no state file"),
             ("busy", "another run is at work on it"),
