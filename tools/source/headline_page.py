@@ -1,13 +1,14 @@
 """Prints docs/HEADLINE.md, docs/HEADLINE_LINES.md, docs/HEADLINE_LISTS.md and
-docs/HEADLINE_JSON.md: the headline of the report, what the lines of JSON say of the databases, what
-a list leaves out, and what the call that writes lines promises; and each definition that these rest
-on, with the sentence over it.
+docs/HEADLINE_JSON.md with their definitions as they are now: the headline of the report, what the
+lines of JSON say of the databases, what a list leaves out, and what the call that writes lines
+promises.
 
-From the contracts of `aide_headline`, and from the laws of `aide_line_laws` that the second page
-begins with, this follows each name to its definition, and from there to
-the definitions that it uses, as tools/source/public_specs.py does for all public calls. A
-definition comes before those that it uses. With --write the pages are written;
-tests/source/check_docs.py compares them with the definitions.
+The prose is that of the pages. What stands in blocks and in the tables at the end is made anew. From
+the contracts of `aide_headline`, and from the laws of `aide_line_laws` that the second page begins
+with, this follows each name to its definition, and from there to the definitions that it uses, as
+tools/source/public_specs.py does for all public calls. A definition comes before those that it
+uses. With --write the pages are written; tests/source/check_docs.py compares them with the
+definitions.
 """
 from __future__ import annotations
 
@@ -18,8 +19,7 @@ from collections.abc import Sequence
 
 from tests.lib.scratch import TOP, read
 from tools.lib.arguments import parser_of
-from tools.source import headline_texts as texts
-from tools.source.definition_lines import PROSE, shown, users_first, wrapped
+from tools.source.definition_lines import shown, users_first, wrapped
 from tools.source.definitions import WORD, Definitions, Place, Places, crates, imports_of
 from tools.source.headline_tables import library_words, members_of, types_of
 from tools.source.worked_examples import ENTRIES, LISTS, examples_of, things_of
@@ -33,6 +33,8 @@ OF_LISTS = (
     "longer_list_keeps",
     "outcome_is_without_list",
 )
+LAWS = "crates/aide_line_laws/proofs/RunMapLaws.antt"
+LIST_LAWS = "crates/aide_line_laws/proofs/ListLaws.antt"
 COMPARE = "crates/aide_headline/src/comparison.rt"
 PROGRAM = "crates/aide_headline/src/program.rt"
 PROGRAM_LINES = "crates/aide_headline/src/lines_program.rt"
@@ -66,6 +68,10 @@ RUNS = [
 ]
 
 
+# A block of a page, between its fences.
+BLOCK = re.compile(r"(```\w+\n).*?(\n```\n)", re.S)
+
+
 def contract_of(text: str, name: str) -> str:
     """A public function without its body: the line that names it, its arguments and its clauses."""
     begin = text.index("pub fn %s<" % name)
@@ -87,38 +93,43 @@ def fields_of(text: str, names: list[str]) -> list[str]:
 
 
 class Page:
-    """The page, part by part: each definition is printed once."""
+    """A page, block by block: each definition is printed once."""
 
     def __init__(
         self,
         definitions: Definitions,
-        intro: str,
+        name: str,
         printed: Sequence[Place] = (),
         examples: dict[Place, list[str]] | None = None,
     ) -> None:
         self.definitions = definitions
         self.examples = examples or {}
-        self.lines = intro.split("\n")[:-1]
+        self.name = name
+        self.blocks: list[str] = []
+        self.sections: dict[str, list[str]] = {}
         self.printed = list(printed)
         self.outside: list[Place] = []
         self.known = list(printed)
 
-    def add(self, *lines: str) -> None:
-        self.lines += lines
+    def text(self) -> str:
+        """The page as it is, with these blocks and sections in place of those that it has."""
+        blocks = iter(self.blocks)
+        text = BLOCK.sub(lambda found: found[1] + next(blocks) + found[2], read(self.name))
+        if next(blocks, None) is not None:
+            sys.exit(f"{self.name}: it has {len(BLOCK.findall(text))} blocks, not {self.blocks}")
+        for title, lines in self.sections.items():
+            section = re.compile(rf"(?<=\n## {title}\n\n).*?(?=\n## |\Z)", re.S)
+            text = section.sub(lambda _: "\n".join(lines) + "\n", text)
+        return text
 
-    def block(self, kind: str, text: str) -> None:
-        self.add("```" + kind, *text.split("\n"), "```")
+    def contracts(self, *calls: tuple[str, str]) -> list[str]:
+        """A block for the contract of each of these calls, which have a file and a name."""
+        contracts = [contract_of(read(file), name) for file, name in calls]
+        self.blocks += contracts
+        return contracts
 
-    def part(
-        self,
-        title: str,
-        text: Sequence[str],
-        contract: str,
-        imports: dict[str, Place],
-        stops: Sequence[Place] = (),
-    ) -> None:
-        """A heading with a text, and the definitions that a contract needs and that are not on the
-        page yet."""
+    def part(self, contract: str, imports: dict[str, Place], stops: Sequence[Place] = ()) -> None:
+        """A block with the definitions that a contract needs and that are not on the page yet."""
         first, named = self.definitions.named_by(WORD.findall(contract), imports)
         order, outside = self.definitions.reached(
             first + [DESK] if "desk." in contract else first, stops
@@ -126,16 +137,19 @@ class Page:
         self.outside += [each for each in named + outside if each not in self.outside]
         new = [place for place in order if place not in self.printed]
         self.printed += new
-        self.add("", "## " + title, "", *text)
-        self.block("text", "\n".join(self.shown(new))[1:])
+        self.blocks.append("\n".join(self.shown(new))[1:])
 
-    def things(self, title: str, text: str, file: str) -> None:
-        """A heading with the entries or lists that the page's examples are about. An example whose
+    def things(self, file: str) -> None:
+        """A block with the entries or lists that the page's examples are about. An example whose
         definition is not on the page ends the program."""
         if self.examples:
             sys.exit(f"{file}: no page has {[place[2] for place in self.examples]}")
-        self.add("", "## " + title, "", *text.split("\n"), "")
-        self.block("text", "\n".join(things_of(file)))
+        self.blocks.append("\n".join(things_of(file)))
+
+    def end(self, known: Sequence[Place] = ()) -> None:
+        """The tables at the end; what is `known` from another page is left out."""
+        self.sections["Types of the code"] = types_of(self, known)
+        self.sections["Words of the toolchain's library"] = library_words(self.outside, known)
 
     def shown(self, places: Places) -> list[str]:
         """Lines with these definitions by file, users first."""
@@ -163,127 +177,65 @@ class Page:
         return any(used[:2] == file for used in self.definitions.used_by(place)[0])
 
 
-def premises(definitions: Definitions, places: Places) -> list[str]:
-    """What the premises of a call over arguments are, in lines of a list."""
-    lines = [texts.ASKED, ""]
-    for place in places:
-        order = definitions.reached([place])[0]
-        count = sum(len(definitions.definition(each).lines) for each in order)
-        files = len({each[:2] for each in order})
-        crate, file, name = place
-        text = f"`{name}` of `crates/{crate}/specs/{file}.antt`: {len(order)} definitions, "
-        text += f"{count} lines; files: {files}"
-        lines.append("- " + "\n  ".join(wrapped(text, "", PROSE - 2)))
-    return lines + [""]
-
-
-def begun(
-    intro: str,
-    definitions: Definitions,
-    calls: Sequence[tuple[str, str, str]],
-    printed: Sequence[Place] = (),
-) -> tuple[Page, list[str]]:
-    """A page with its introduction and the clauses of these calls, each with what it is about, its
-    file and its name; and their contracts."""
-    made = Page(definitions, intro, printed)
-    contracts: list[str] = []
-    made.add("", "## The clauses")
-    for words, file, name in calls:
-        contracts.append(contract_of(read(file), name))
-        made.add("", *wrapped(f"{words} (`{file}`):", "", PROSE), "")
-        made.block("rust", contracts[-1])
-    return made, contracts
-
-
 def theorem(definitions: Definitions, known: Places) -> Page:
     """The page of what lines say of the databases, and each definition that its laws rest on; what
     is `known` from the page of the report is not explained again."""
-    text = read(texts.LAWS)
+    text = read(LAWS)
     laws = [law_of(text, name) for name in ("a_trusted_run_says_all", "a_run_says_all")]
-    made = Page(definitions, texts.INTRO_OF_THEOREM, examples=examples_of(ENTRIES))
-    made.add("", "## The theorem", "", *texts.OF_LAWS.split("\n"), "")
-    made.block("text", "\n\n".join(laws))
+    made = Page(definitions, THEOREM_PAGE, examples=examples_of(ENTRIES))
+    made.blocks.append("\n\n".join(laws))
     silent = {name: ("aide_line_laws", "OverMaps", name) for name in ("IsAccount", "differ_beyond")}
-    made.part("What is silent, and what differs", [], " ".join(silent), silent)
+    made.part(" ".join(silent), silent)
     stops = [*RUNS, MAP, LEFT_OUT, MEASURES, RULE, JSON]
-    made.part("What the lines say", [], "\n".join(laws), imports_of(text), stops)
-    made.part("What the maps are", [texts.OF_VALUES, ""], MAP[2], {MAP[2]: MAP}, VALUES)
-    made.things("The entries of the examples", texts.OF_THINGS, ENTRIES)
-    made.add(*types_of(made, known))
-    made.add(*library_words(made.outside, known))
+    made.part("\n".join(laws), imports_of(text), stops)
+    made.part(MAP[2], {MAP[2]: MAP}, VALUES)
+    made.things(ENTRIES)
+    made.end(known)
     return made
 
 
 def lists(definitions: Definitions, printed: Places) -> Page:
     """The page of what a list leaves out, with the definitions that are not printed yet."""
-    text = read(texts.LIST_LAWS)
-    made = Page(definitions, texts.INTRO_OF_LISTS, printed, examples_of(LISTS))
-    made.add("", "## The laws", "", *texts.OF_LIST_LAWS.split("\n"), "")
-    made.block("text", "\n\n".join(law_of(text, name) for name in OF_LISTS))
-    parts: list[tuple[str, Place, Places]] = [
-        ("When a line leaves a change out", LEFT_OUT, [NAMES]),
-        ("What gives somebody a right", RIGHTS, []),
-        ("Which databases say that a program has no capabilities", MEASURES, []),
-        ("Which paths a line names", NAMES, []),
-        ("What a text says as a list", READING, []),
-    ]
-    for title, place, stops in parts:
-        made.part(title, [], place[2], {place[2]: place}, stops)
-    made.things("The lists of the examples", texts.OF_LIST_THINGS, LISTS)
+    text = read(LIST_LAWS)
+    made = Page(definitions, LISTS_PAGE, printed, examples_of(LISTS))
+    made.blocks.append("\n\n".join(law_of(text, name) for name in OF_LISTS))
+    parts: dict[Place, Places] = {
+        LEFT_OUT: [NAMES],
+        RIGHTS: [],
+        MEASURES: [],
+        NAMES: [],
+        READING: [],
+    }
+    for place, stops in parts.items():
+        made.part(place[2], {place[2]: place}, stops)
+    made.things(LISTS)
     return made
 
 
 def pages() -> dict[str, str]:
     """The texts of all pages, by their names."""
     definitions, record = Definitions(crates()), read(RUN_RECORD)
-    calls = [
-        (texts.OF_TWO, COMPARE, "compare_databases"),
-        (texts.OF_PROGRAM, PROGRAM, "run_program"),
-    ]
-    made, (compare, program) = begun(texts.INTRO, definitions, calls)
-    unseen = "\n".join(fields_of(record, ["consistent", "opens_told"]))
-    made.part("What the first call rests on", [], compare, imports_of(read(COMPARE)))
-    made.part(
-        "What the second call adds",
-        premises(definitions, PREMISES),
-        program,
-        imports_of(read(PROGRAM)),
-        PREMISES,
-    )
+    made = Page(definitions, PAGE)
+    compare, program = made.contracts((COMPARE, "compare_databases"), (PROGRAM, "run_program"))
+    made.part(compare, imports_of(read(COMPARE)))
+    made.part(program, imports_of(read(PROGRAM)), PREMISES)
     printed = list(made.printed)
-    made.part(
-        "Only for files whose bytes contracts do not see",
-        [texts.FILES, "", "```text", unseen, "```", ""],
-        unseen,
-        imports_of(record),
+    unseen = "\n".join(fields_of(record, ["consistent", "opens_told"]))
+    made.blocks.append(unseen)
+    made.part(unseen, imports_of(record))
+    made.sections["What contracts see of the sources, the site and the sinks"] = members_of(
+        [compare, program]
     )
-    made.add(
-        "",
-        "## What contracts see of the sources, the site and the sinks",
-        "",
-        *members_of([compare, program]),
-    )
-    made.add(*types_of(made, []))
-    made.add(*library_words(made.outside))
+    made.end()
     silent = theorem(definitions, made.outside)
     listed = lists(definitions, silent.printed)
-    known = made.outside + silent.outside
-    listed.add(*types_of(listed, known))
-    listed.add(*library_words(listed.outside, known))
-    calls = [(texts.OF_PROGRAM, PROGRAM_LINES, "run_lines_program")]
-    lines, (program,) = begun(texts.INTRO_OF_LINES, definitions, calls, [*printed, *listed.printed])
-    lines.part(
-        "What the call adds",
-        premises(definitions, PREMISES_TRUSTED),
-        program,
-        imports_of(read(PROGRAM_LINES)),
-        PREMISES + PREMISES_TRUSTED,
-    )
-    lines.part("What a text of lines is", [texts.OF_JSON, ""], JSON[2], {JSON[2]: JSON})
-    lines.add(*types_of(lines, made.outside))
-    lines.add(*library_words(lines.outside, made.outside))
-    named = {PAGE: made, THEOREM_PAGE: silent, LISTS_PAGE: listed, LINES_PAGE: lines}
-    return {name: "\n".join(page.lines) + "\n" for name, page in named.items()}
+    listed.end(made.outside + silent.outside)
+    lines = Page(definitions, LINES_PAGE, [*printed, *listed.printed])
+    (program,) = lines.contracts((PROGRAM_LINES, "run_lines_program"))
+    lines.part(program, imports_of(read(PROGRAM_LINES)), PREMISES + PREMISES_TRUSTED)
+    lines.part(JSON[2], {JSON[2]: JSON})
+    lines.end(made.outside)
+    return {page.name: page.text() for page in (made, silent, listed, lines)}
 
 
 def main() -> int:

@@ -115,7 +115,7 @@ def type_of(target: Place) -> Place:
     return target[0], "/".join(modules), [part for part in parts if not part[0].islower()][0]
 
 
-def types_of(page: Page, known: Places) -> list[str]:
+def types_of(page: Page, known: Sequence[Place]) -> list[str]:
     """The types of the code that a page names, with the variants or fields of each, and the
     constants; those that are `known` from another page are left out."""
     own, aliases = crates(), aliases_of(page)
@@ -140,7 +140,7 @@ def types_of(page: Page, known: Places) -> list[str]:
         sentence = words.split(". ")[0]
         lines.append(f"| `{name}` | {sentence} | {', '.join(parts)} | `{file}` |")
     constants = constants_of(declared)
-    return ["", "## Types of the code", "", *lines, *([""] if constants else []), *constants]
+    return [*lines, *([""] if constants else []), *constants]
 
 
 def library_words(outside: Places, known: Sequence[Place] = ()) -> list[str]:
@@ -158,13 +158,7 @@ def library_words(outside: Places, known: Sequence[Place] = ()) -> list[str]:
             lines.append("| `%s` | `%s`, `%s` | %s |" % (name, crate, file, means))
     plain = sorted({name for _, _, name in of_library if name not in MEANINGS})
     table = [*wrapped(WORDS, "", PROSE), "", *lines, ""] if len(lines) > 2 else []
-    return [
-        "",
-        "## Words of the toolchain's library",
-        "",
-        *table,
-        *wrapped((PLAIN if table else ALL_PLAIN) + listed(plain) + ".", "", PROSE),
-    ]
+    return [*table, *wrapped((PLAIN if table else ALL_PLAIN) + listed(plain) + ".", "", PROSE)]
 
 
 def listed(names: list[str]) -> str:
