@@ -12,7 +12,6 @@ from __future__ import annotations
 import argparse
 import ast
 import copy
-import difflib
 import os
 import random
 import signal
@@ -50,10 +49,10 @@ OTHER: dict[type[ast.operator], type[ast.operator]] = {
 
 
 class Mutant(NamedTuple):
-    """A text with a mistake in a line."""
+    """A text with a mistake: the line of it, what stands there, and what stood there."""
 
     line: int
-    kind: str
+    change: str
     text: str
 
 
@@ -65,42 +64,40 @@ def changed(node: ast.AST, **fields: Any) -> ast.AST:
     return made
 
 
-def of_expression(node: ast.AST) -> Iterator[tuple[str, ast.AST]]:
-    """What may stand in the place of an expression, by kind."""
+def of_expression(node: ast.AST) -> Iterator[ast.AST]:
+    """What may stand in the place of an expression."""
     if isinstance(node, ast.Compare):
         for at, sign in enumerate(node.ops):
             signs = [*node.ops[:at], TURNED[type(sign)](), *node.ops[at + 1 :]]
-            yield "comparison", changed(node, ops=signs)
+            yield changed(node, ops=signs)
     elif isinstance(node, ast.BoolOp):
-        yield "and/or", changed(node, op=ast.Or() if isinstance(node.op, ast.And) else ast.And())
+        yield changed(node, op=ast.Or() if isinstance(node.op, ast.And) else ast.And())
         for value in node.values:
             rest = [other for other in node.values if other is not value]
-            yield "condition", rest[0] if len(rest) == 1 else changed(node, values=rest)
+            yield rest[0] if len(rest) == 1 else changed(node, values=rest)
     elif isinstance(node, ast.UnaryOp) and isinstance(node.op, ast.Not):
-        yield "not", node.operand
+        yield node.operand
     elif isinstance(node, ast.BinOp) and type(node.op) in OTHER:
         if isinstance(node.op, ast.BitOr):
-            yield from (("flag", node.left), ("flag", node.right))
-        yield "operator", changed(node, op=OTHER[type(node.op)]())
+            yield from (node.left, node.right)
+        yield changed(node, op=OTHER[type(node.op)]())
     elif isinstance(node, ast.Constant) and isinstance(node.value, bool):
-        yield "constant", ast.Constant(not node.value)
+        yield ast.Constant(not node.value)
     elif isinstance(node, ast.Constant) and isinstance(node.value, int):
-        yield from (("constant", ast.Constant(node.value + step)) for step in (1, -1))
+        yield from (ast.Constant(node.value + step) for step in (1, -1))
     elif isinstance(node, ast.Call):
         for word in node.keywords:
-            rest_of_words = [other for other in node.keywords if other is not word]
-            yield "argument", changed(node, keywords=rest_of_words)
+            yield changed(node, keywords=[other for other in node.keywords if other is not word])
 
 
-def alternatives(node: ast.AST) -> Iterator[tuple[str, ast.AST]]:
-    """What may stand in the place of a node, by kind."""
+def alternatives(node: ast.AST) -> Iterator[ast.AST]:
+    """What may stand in the place of a node."""
     if isinstance(node, (ast.If, ast.IfExp, ast.While)):
-        for value in (True, False):
-            yield "branch", changed(node, test=ast.Constant(value))
+        yield from (changed(node, test=ast.Constant(value)) for value in (True, False))
     elif isinstance(node, ast.Expr) and isinstance(node.value, ast.Call):
-        yield "statement", ast.Pass()
+        yield ast.Pass()
     elif isinstance(node, ast.Return) and getattr(node.value, "value", "") is not None:
-        yield "result", ast.Return(ast.Constant(None))
+        yield ast.Return(ast.Constant(None))
     else:
         yield from of_expression(node)
 
@@ -132,15 +129,16 @@ def drawn(text: str, count: int, numbers: random.Random) -> Iterator[Mutant]:
     for at, which in numbers.sample(every, min(count, len(every))):
         tree = ast.parse(text)
         node = list(places(tree))[at]
-        kind, other = list(alternatives(node))[which]
-        changed_tree = ast.fix_missing_locations(Replacement(node, other).visit(tree))
-        yield Mutant(getattr(node, "lineno", 0), kind, ast.unparse(changed_tree))
+        other = list(alternatives(node))[which]
+        change = f"{ast.unparse(other)[:200]}, not {ast.unparse(node)[:200]}"
+        made = ast.fix_missing_locations(Replacement(node, other).visit(tree))
+        yield Mutant(getattr(node, "lineno", 0), change, ast.unparse(made))
 
 
-def end_of(test: str, directory: str, args: argparse.Namespace) -> str:
-    """How a test ends in a directory: "fails", "hangs", or "" if it passes. All its processes end
-    with it: a mistake can let one wait for ever, as at a FIFO. For root the machine's directories
-    are read-only meanwhile, where the machine allows it."""
+def passes(test: str, directory: str, args: argparse.Namespace) -> bool:
+    """Whether a test passes in a directory. All its processes end with it: a mistake can let one
+    wait for ever, as at a FIFO. For root the machine's directories are read-only meanwhile, where
+    the machine allows it."""
     process = subprocess.Popen(
         apart([sys.executable, "-m", "unittest", "--failfast", test]),
         cwd=directory,
@@ -151,27 +149,20 @@ def end_of(test: str, directory: str, args: argparse.Namespace) -> str:
         start_new_session=True,
     )
     try:
-        return "fails" if process.wait(args.seconds) else ""
+        return process.wait(args.seconds) == 0
     except subprocess.TimeoutExpired:
         os.killpg(process.pid, signal.SIGKILL)
         process.wait()
-        return "hangs"
+        return False
 
 
-def first_end(text: str, args: argparse.Namespace) -> str:
-    """How the first test ends that does not pass with this text in the place of the file."""
+def is_seen(text: str, args: argparse.Namespace) -> bool:
+    """Whether a test fails or hangs with this text in the place of the file."""
     with tempfile.TemporaryDirectory(prefix="mutate-") as directory:
         copy_sources(directory)
         with open(os.path.join(directory, args.file), "w", encoding="utf-8") as target:
             target.write(text)
-        ends = (end_of(test, directory, args) for test in args.tests)
-        return next((f"{test} {end}" for test, end in zip(args.tests, ends) if end), "")
-
-
-def change_in(text: str, mutant: str) -> str:
-    """The lines that a mutant has not from the text, and those that it has in their place."""
-    lines = difflib.ndiff(ast.unparse(ast.parse(text)).splitlines(), mutant.splitlines())
-    return "".join(f"\n  {line}" for line in lines if line[0] in "+-")
+        return not all(passes(test, directory, args) for test in args.tests)
 
 
 def main() -> int:
@@ -199,17 +190,13 @@ def main() -> int:
     print(f"seed {args.seed}", flush=True)
     with open(os.path.join(TOP, args.file), encoding="utf-8") as source:
         whole = source.read()
-    end = first_end(whole, args)
-    if end:
-        sys.exit(f"without a mistake: {end}")
+    if is_seen(whole, args):
+        sys.exit("a test fails without a mistake")
     chosen = list(drawn(whole, args.count, random.Random(args.seed)))
-    ends = side_by_side(args.jobs, lambda one: first_end(one.text, args), chosen)
-    for mutant, end in zip(chosen, ends):
-        faults = [] if end else [f"not seen{change_in(whole, mutant.text)}"]
-        if end.endswith("hangs"):
-            print(f"{args.file}:{mutant.line}: {mutant.kind}: {end}", flush=True)
-        tally.add(f"{args.file}:{mutant.line}: {mutant.kind}", faults)
-    return int(tally.status())
+    seen = side_by_side(args.jobs, lambda one: is_seen(one.text, args), chosen)
+    for mutant, was_seen in zip(chosen, seen):
+        tally.holds(f"{args.file}:{mutant.line}: {mutant.change}", was_seen)
+    return tally.status()
 
 
 if __name__ == "__main__":
