@@ -16,22 +16,13 @@ import sys
 
 from tests.lib.programs import BUILT, VARIABLE
 from tests.lib.scratch import TOP
+from tests.lib.tally import Tally
 from tools.gate import unit_tests
 from tools.gate.affected import Tests
-from tools.gate.counting import Count, Part
-from tools.gate.whole import FILES, UNIT_TESTS
 from tools.lib.arguments import executable, parser_of
 
-JOBS = 3
-PYTHON = ("commands/", "tools/", "tests/", "bench/")
-# Which files each check of files reads, as beginnings and endings of their paths.
-READS: dict[str, tuple[tuple[str, ...], tuple[str, ...]]] = {
-    "tests.source.check_tools": (("tools/", "tests/", "bench/", "packaging/"), ("",)),
-    "tests.source.check_docs": (("",), (".md", ".1", ".rt", ".antt")),
-    "tests.source.check_layout": (("crates/",), ("",)),
-    "tests.source.check_layers": (("commands/",), (".py",)),
-    "tests.source.check_python": (PYTHON, (".py",)),
-}
+# The check of the language Python, which reads all files of it and takes most of a minute.
+PYTHON = "tests.source.test_python"
 # What compares the options of the commands with the manual.
 OPTIONS_IN_MANUAL = "tests.pages.test_blocks"
 # A change here that no test tries is a failure. What else has no test is a page or a tool.
@@ -52,43 +43,33 @@ def changed(since: str) -> list[str]:
     return sorted(names)
 
 
-def checks_for(names: list[str]) -> list[Part]:
-    """The checks of files that read some of these."""
-
-    def reads(check: str, name: str) -> bool:
-        beginnings, endings = READS[check]
-        return name.startswith(beginnings) and name.endswith(endings)
-
-    return [part for part in FILES if any(reads(part[0], name) for name in names)]
-
-
-def tests_for(names: list[str], count: Count) -> list[str]:
+def tests_for(names: list[str], tally: Tally) -> list[str]:
     """The modules of tests for these files. A file that no test tries is a failure."""
     tests = Tests()
     found: set[str] = set()
     for name in names:
         if name.startswith("crates/"):
-            modules = unit_tests.modules(["tests.program"])
+            modules = unit_tests.modules("tests.program")
         else:
             modules = tests.of(name)
         if name.startswith(TRIED) and not modules:
-            count.add(name, ["no test tries it"])
+            tally.add(name, ["no test tries it"])
         if name.startswith(("commands/", "man/")):
             modules.append(OPTIONS_IN_MANUAL)
         found.update(modules)
     return sorted(found)
 
 
-def find_program(count: Count) -> str | None:
+def find_program(tally: Tally) -> str | None:
     """The program that was built last. One that is older than its sources is a failure."""
     sources = glob.glob(os.path.join(TOP, "crates", "*", "src", "**", "*.rt"), recursive=True)
     for path in filter(None, (os.environ.get(VARIABLE), BUILT, BUILT + "-unproved")):
         if os.access(path, os.X_OK):
             print(f"the tests run {path}", flush=True)
             if os.path.getmtime(path) < max(map(os.path.getmtime, sources)):
-                count.add(path, ["it is older than its sources: run tools/build_unproved"])
+                tally.add(path, ["it is older than its sources: run tools/build_unproved"])
             return path
-    count.add("the program", ["there is none, so no test ran: run tools/build_unproved"])
+    tally.add("the program", ["there is none, so no test ran: run tools/build_unproved"])
     return None
 
 
@@ -107,15 +88,17 @@ def main() -> int:
         help="what counts as changed (origin/main)",
     )
     args = parser.parse_args()
-    count = Count()
+    tally = Tally()
     names = [] if args.all else changed(args.since)
-    count.run_side_by_side(FILES if args.all else checks_for(names), JOBS)
-    modules = tests_for(names, count)
-    if args.all or modules:
-        program = args.program or find_program(count)
-        if program:
-            count.run_side_by_side([(UNIT_TESTS, program, "--quick", *modules)], 1)
-    return int(count.status())
+    modules = set(unit_tests.modules() if args.all else tests_for(names, tally))
+    checks = set(unit_tests.modules(unit_tests.SOURCE))
+    if not args.all and not any(name.endswith(".py") for name in names):
+        checks.remove(PYTHON)
+    unit_tests.run_all(sorted(checks), tally)
+    program = args.program or find_program(tally) if modules - checks else None
+    if program:
+        unit_tests.run_all(sorted(modules - checks), tally, program, is_quick=True)
+    return tally.status()
 
 
 if __name__ == "__main__":

@@ -6,8 +6,8 @@ checks the one function of a program's own crate again and compiles the whole fo
 instruction of it; the commands then run the other build.
 
 Beside each proved build stands a record, `NAME.proved` or `NAME-v3.proved`: the SHA-256 of the
-file, and the toolchain. It is written at once after the proof. With --ran-now the builds for
-x86-64-v2, which the caller has just proved, get theirs too. The last line is 'N passed, M failed'.
+file, and the toolchain. It is written at once after the proof. The last line is 'N passed, M
+failed'.
 """
 from __future__ import annotations
 
@@ -15,6 +15,7 @@ import hashlib
 import os
 import subprocess
 import sys
+from collections.abc import Sequence
 
 from tests.lib.tally import Tally
 from tools.lib.arguments import add_names, parser_of
@@ -88,23 +89,24 @@ def build(crate: str, uses: dict[str, list[str]]) -> list[str]:
     return []
 
 
-def main() -> None:
+def build_all(tally: Tally, ran_now: bool = False, names: Sequence[str] = PROGRAMS) -> None:
+    """Builds programs for newer processors too. With `ran_now` the builds that are there, which the
+    caller has just proved, get their records."""
+    uses = libraries()
+    for crate in names:
+        if ran_now:
+            write_record(path_of(crate))
+        tally.add(crate + NEWER, build(crate, uses))
+
+
+def main() -> int:
     """Builds the programs that were named, or both."""
     parser = parser_of("tools.gate.second_builds", __doc__)
     add_names(parser, PROGRAMS)
-    parser.add_argument(
-        "--ran-now",
-        action="store_true",
-        help="the caller has just proved the builds that are there",
-    )
-    given = parser.parse_args()
-    tally, uses = Tally(), libraries()
-    for crate in given.names or PROGRAMS:
-        if given.ran_now:
-            write_record(path_of(crate))
-        tally.add(crate + NEWER, build(crate, uses))
-    sys.exit(tally.status())
+    tally = Tally()
+    build_all(tally, names=parser.parse_args().names or PROGRAMS)
+    return tally.status()
 
 
 if __name__ == "__main__":
-    main()
+    sys.exit(main())

@@ -7,26 +7,57 @@ The very last line is 'N passed, M failed' of all together, after what each part
 from __future__ import annotations
 
 import os
+import re
 import subprocess
 import sys
+from collections.abc import Callable
 
+from tests.lib import signals
 from tests.lib.scratch import TOP
-from tools.gate.counting import Count, Part
-from tools.gate.second_builds import NEWER
+from tests.lib.tally import Tally
+from tools.gate import second_builds, unit_tests
 from tools.lib.arguments import parser_of
 
-CHECKS = ("check_tools", "check_docs", "check_layout", "check_layers", "check_python")
-FILES: list[Part] = [(f"tests.source.{name}",) for name in CHECKS]
-PROOFS: Part = ("rt", "ci")
-# What builds the programs for newer processors too, over the libraries that were proved.
-SECOND_BUILDS: Part = ("tools.gate.second_builds", "--ran-now")
-UNIT_TESTS = "tools.gate.unit_tests"
 PROGRAM = "crates/aide/out/aide"
 PROGRAMS = (
     PROGRAM,
     "crates/aide_lines/out/aide_lines",
     "crates/aide_in_memory/out/aide_in_memory",
 )
+COUNTED = re.compile(r"(\d+) passed, (\d+) failed\n?")
+# The tests that the builds for newer processors run too.
+OF_PROGRAMS = "tests.program"
+
+
+class Gate(Tally):
+    """What all parts counted, and the processor time that each of them took."""
+
+    def __init__(self) -> None:
+        super().__init__()
+        self.spent: list[tuple[str, float]] = []
+
+    def part(self, name: str, work: Callable[[Tally], None]) -> None:
+        """Does a part. One that counts nothing has failed."""
+        tally, before = Tally(), processor_time()
+        work(tally)
+        self.spent.append((name, processor_time() - before))
+        self.passed += tally.passed
+        self.failed += tally.failed
+        if not tally.passed + tally.failed:
+            self.add(name, ["it counted nothing"])
+
+    def print_cost(self) -> None:
+        """Prints what each part took."""
+        for name, seconds in self.spent:
+            print(f"{seconds:7.0f} s of the processor: {name}")
+        minutes = sum(seconds for _, seconds in self.spent) / 60
+        print(f"{minutes:.0f} minutes of the processor", flush=True)
+
+
+def processor_time() -> float:
+    """The seconds of processor time of all children that have ended."""
+    spent = os.times()
+    return spent.children_user + spent.children_system
 
 
 def jobs() -> int:
@@ -42,7 +73,7 @@ def jobs() -> int:
     return max(1, min(processors - processors // 4, free // 4000000))
 
 
-def prove(count: Count) -> None:
+def prove(tally: Tally) -> None:
     """What the gate has proved it builds too: those very programs are tried, and none that was
     there before."""
     for name in PROGRAMS:
@@ -51,8 +82,17 @@ def prove(count: Count) -> None:
     os.environ.setdefault("RT_JOBS", str(jobs()))
     # For root `rt ci` runs what it has built as nobody, who has to be able to read it.
     umask = os.umask(0o022)
-    count.run(PROOFS)
+    with subprocess.Popen(
+        ["rt", "ci"], cwd=TOP, stdout=subprocess.PIPE, stderr=subprocess.STDOUT, text=True
+    ) as process:
+        line = ""
+        for line in process.stdout or ():
+            print(line, end="", flush=True)
     os.umask(umask)
+    counted = COUNTED.fullmatch(line)
+    tally.passed, tally.failed = map(int, counted.groups()) if counted else (0, 0)
+    if process.returncode and not tally.failed:
+        tally.add("rt ci", [f"it ended with {process.returncode}"])
 
 
 def is_built(name: str) -> bool:
@@ -66,24 +106,33 @@ def runs_here(program: str) -> bool:
     return is_built(program) and subprocess.call(words) != 127
 
 
+def try_programs(gate: Gate) -> None:
+    """The tests of the programs that were proved, and of the builds for newer processors, whose
+    answers have to be those of the other builds."""
+    gate.part("second builds", lambda tally: second_builds.build_all(tally, ran_now=True))
+    names = [name for name in unit_tests.modules() if not name.startswith(unit_tests.SOURCE)]
+    gate.part("tests", lambda tally: unit_tests.run_all(names, tally, PROGRAM))
+    newer = PROGRAM + second_builds.NEWER
+    if runs_here(newer):
+        names = unit_tests.modules(OF_PROGRAMS)
+        gate.part(newer, lambda tally: unit_tests.run_all(names, tally, newer, is_quick=True))
+    else:
+        print("skipped: this processor does not run the builds for newer ones", flush=True)
+
+
 def main() -> int:
     parser_of("tools.gate.whole", __doc__).parse_args()
-    count = Count()
-    for part in FILES:
-        count.run(part)
-    prove(count)
+    signals.heed()
+    gate = Gate()
+    names = unit_tests.modules(unit_tests.SOURCE)
+    gate.part(unit_tests.SOURCE, lambda tally: unit_tests.run_all(names, tally))
+    gate.part("rt ci", prove)
     if all(map(is_built, PROGRAMS[:2])):
-        count.run(SECOND_BUILDS)
-        count.run((UNIT_TESTS, PROGRAM))
-        # The answers of the builds for newer processors have to be those of the other builds.
-        if runs_here(PROGRAM + NEWER):
-            count.run((UNIT_TESTS, PROGRAM + NEWER, "--quick", "tests.program"))
-        else:
-            print("skipped: this processor does not run the builds for newer ones", flush=True)
+        try_programs(gate)
     else:
-        count.add("the programs", ["were not built"])
-    count.print_cost()
-    return int(count.status())
+        gate.add("the programs", ["were not built"])
+    gate.print_cost()
+    return gate.status()
 
 
 if __name__ == "__main__":

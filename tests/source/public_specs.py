@@ -5,19 +5,11 @@ from there to the definitions that it uses.
 """
 from __future__ import annotations
 
-import glob
 import os
 import re
-from collections.abc import Callable
 
-from tools.source.checker import TOP, below, libraries
-from tools.source.definitions import WORD, Definitions, imports_of
-
-# What is built of the crates, and whose calls are promised to others.
-PROGRAMS = ("aide", "aide_lines", "aide_headline")
-# A crate that is the inside of others, and those. What they take of it is promised to nobody else,
-# but for what they hand on.
-INSIDE = {"aide_merge": ("aide_report", "aide_line_run")}
+from tools.source.checker import TOP
+from tools.source.definitions import WORD, Definitions, crates, imports_of
 
 
 def public_names(crate: str) -> set[str]:
@@ -30,34 +22,6 @@ def public_names(crate: str) -> set[str]:
     return {
         name for use in re.findall(r"^pub use ([^;]+);", text, re.M) for name in WORD.findall(use)
     }
-
-
-def crates_of_programs() -> list[str]:
-    """The crates that the programs and the headline are built of, by crates.txt."""
-    uses = libraries()
-    return sorted(set(PROGRAMS).union(*(below(name, uses) for name in PROGRAMS)))
-
-
-def names_used(crate: str, users: list[str]) -> set[str]:
-    """The names of a crate that other crates import, or only hand on if it is their inside."""
-    used = set()
-    for user in users:
-        use = "pub use" if user in INSIDE.get(crate, ()) else "use"
-        source = os.path.join(TOP, "crates", user, "src")
-        for path in glob.glob(os.path.join(source, "**", "*.rt"), recursive=True):
-            with open(path, encoding="utf-8") as file:
-                text = file.read()
-            for names in re.findall(rf"^{use} {crate}::([^;]+);", text, re.MULTILINE):
-                used |= set(WORD.findall(names))
-    return used
-
-
-def names_for_programs(crate: str) -> set[str]:
-    """The names that the root of a crate hands on and that a program's crate imports."""
-    if crate in PROGRAMS:
-        return public_names(crate)
-    users = [user for user in crates_of_programs() if user != crate]
-    return public_names(crate) & names_used(crate, users)
 
 
 def owner_of(head: str) -> str:
@@ -87,13 +51,11 @@ def public_contracts(text: str, public: set[str]) -> str:
     return "\n".join(kept)
 
 
-def met(
-    names: list[str], handed_on: Callable[[str], set[str]] = public_names
-) -> dict[str, list[str]]:
+def met() -> dict[str, set[str]]:
     """The files of specs/ that the contracts of what the crates hand on reach, by crate."""
-    definitions, first = Definitions(names), []
-    for crate in names:
-        public = handed_on(crate)
+    definitions, first = Definitions(crates()), []
+    for crate in crates():
+        public = public_names(crate)
         for path, _, inside in os.walk(os.path.join(TOP, "crates", crate, "src")):
             for file in inside:
                 if (
@@ -106,4 +68,4 @@ def met(
                     words = WORD.findall(public_contracts(text, public))
                     first += definitions.named_by(words, imports_of(text))[0]
     seen = definitions.reached(first)[0]
-    return {crate: sorted({file for other, file, _ in seen if other == crate}) for crate in names}
+    return {crate: {file for other, file, _ in seen if other == crate} for crate in crates()}

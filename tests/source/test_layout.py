@@ -1,28 +1,24 @@
-"""Checks of every crate what `rt fmt` leaves as it is: cycles of modules, and long lines.
+"""What `rt fmt` leaves as it is in each crate: cycles of modules, and long lines.
 
-  cycle   the modules of a crate form no cycle (by their `use crate::` and `use super::` lines)
-  column  a line of specs/ has at most 100 characters, a line of comment at most 120, and a line of
-          proofs/ at most 140
-
-The last line is 'N passed, M failed': each crate counts once for each rule.
+A line of specs/ has at most 100 characters, a line of comment at most 120, and a line of proofs/ at
+most 140.
 """
 from __future__ import annotations
 
 import graphlib
 import pathlib
 import re
-import sys
+import unittest
 from collections.abc import Iterator
 from typing import Dict, Set, Tuple
 
 from tests.lib.scratch import TOP
-from tests.lib.tally import Tally
-from tools.lib.arguments import parser_of
 from tools.source.definitions import crates
 
 # The path of a module within its crate, none for the root, and which modules each one uses.
 Module = Tuple[str, ...]
 Graph = Dict[Module, Set[Module]]
+CRATES = pathlib.Path(TOP, "crates")
 MOST_COLUMNS = 100
 MOST_COMMENT_COLUMNS = 120
 MOST_PROOF_COLUMNS = 140
@@ -107,16 +103,11 @@ def longest(modules: dict[Module, str], path: Module) -> Module:
     return ()
 
 
-def cycles_in(crate: pathlib.Path) -> list[str]:
-    """A cycle of the modules of a crate, if there is one."""
+def uses_in(crate: pathlib.Path) -> Graph:
+    """Which modules of a crate each of them uses, by their `use crate::` and `use super::` lines."""
     source = crate / "src"
     texts = {file: file.read_text(encoding="utf-8") for file in source.rglob("*.rt")}
-    graph = imports_of({module_of(source, file): text for file, text in texts.items()})
-    try:
-        graphlib.TopologicalSorter(graph).prepare()
-    except graphlib.CycleError as error:
-        return [", ".join("::".join(module) for module in error.args[1])]
-    return []
+    return imports_of({module_of(source, file): text for file, text in texts.items()})
 
 
 def most_columns(part: str, line: str) -> int:
@@ -138,15 +129,12 @@ def long_lines_in(crate: pathlib.Path) -> list[str]:
     ]
 
 
-def main() -> int:
-    parser_of("tests.source.check_layout", __doc__).parse_args()
-    tally = Tally()
-    for name in crates():
-        crate = pathlib.Path(TOP, "crates", name)
-        tally.add(f"cycle in {name}", cycles_in(crate))
-        tally.add(f"column in {name}", long_lines_in(crate))
-    return tally.status()
+class Layout(unittest.TestCase):
+    def test_modules_form_no_cycle(self) -> None:
+        for name in crates():
+            with self.subTest(name):
+                graphlib.TopologicalSorter(uses_in(CRATES / name)).prepare()
 
-
-if __name__ == "__main__":
-    sys.exit(main())
+    def test_no_line_is_too_long(self) -> None:
+        for name in crates():
+            self.assertEqual(long_lines_in(CRATES / name), [], name)

@@ -1,13 +1,9 @@
-"""Checks each script in Python of this repository: its --help, and that it does nothing before it
+"""Each script in Python of this repository says by --help what it does, and does nothing before it
 has read its arguments.
 
-- Each tool that is run prints by `--help` how it is called, as argparse says it, and all of its own
-  text, and ends with 0. The repository is the same afterwards.
-- Each tool refuses an option that it does not have, with a status that is not 0, and changes
-  nothing.
-
-The commands in commands/ are tried by their own trials. Prints what fails and, at the end, `N
-passed, M failed`.
+It prints how it is called, as argparse says it, and all of its own text, and ends with 0. It refuses
+an option that it does not have, with a status that is neither 0 nor 1. The commands in commands/
+have trials of their own.
 """
 from __future__ import annotations
 
@@ -16,15 +12,14 @@ import os
 import re
 import subprocess
 import sys
+import unittest
 from collections.abc import Iterator
 
 from tests.lib.answer import Answer, run
 from tests.lib.scratch import TOP
-from tests.lib.tally import Tally
-from tests.source.check_docs import read_text, tracked
-from tools.lib.arguments import parser_of
+from tests.source.test_docs import read_text, tracked
 
-MAIN = 'if __name__ == "__main__":'
+MAIN = re.compile("^if __name__ == ['\"]__main__['\"]:$", re.M)
 
 
 def tools() -> Iterator[tuple[str, str]]:
@@ -32,8 +27,7 @@ def tools() -> Iterator[tuple[str, str]]:
     for name in sorted(tracked()):
         text = read_text(name)
         is_python = name.endswith(".py") or re.match("#!/usr/bin/(env )?python3", text)
-        is_run = MAIN in text.replace("'", '"')
-        if is_python and is_run and not name.startswith("commands/"):
+        if is_python and MAIN.search(text) and not name.startswith("commands/"):
             yield name, text
 
 
@@ -73,22 +67,16 @@ def lacks(name: str, text: str, output: str) -> list[str]:
     return [part for part in parts if part not in words]
 
 
-def main() -> int:
-    parser_of("tests.source.check_tools", __doc__).parse_args()
-    tally = Tally()
-    found = list(tools())
-    before = tree()
-    for name, text in found:
-        helped = answer_of(name, "--help")
-        is_help = helped.status == 0 and helped.output_text.startswith("usage:")
-        tally.holds(f"{name} --help", is_help, helped)
-        tally.add(f"{name} --help lacks", lacks(name, text, helped.output_text)[:2])
-        refused = answer_of(name, "--no-such-option")
-        tally.holds(f"{name} refuses another option", refused.status not in (0, 1), refused)
-    tally.holds("no file is written before the arguments are read", tree() == before)
-    tally.holds("a tool is found", len(found) > 15, len(found))
-    return tally.status()
-
-
-if __name__ == "__main__":
-    sys.exit(main())
+class Tools(unittest.TestCase):
+    def test_each_tool(self) -> None:
+        found = list(tools())
+        self.assertGreater(len(found), 10, found)
+        before = tree()
+        for name, text in found:
+            with self.subTest(name):
+                helped = answer_of(name, "--help")
+                self.assertEqual((helped.status, helped.output_text[:6]), (0, "usage:"), helped)
+                self.assertEqual(lacks(name, text, helped.output_text)[:2], [])
+                refused = answer_of(name, "--no-such-option")
+                self.assertNotIn(refused.status, (0, 1), refused)
+        self.assertEqual(tree(), before, "no file is written before the arguments are read")
