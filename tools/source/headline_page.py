@@ -5,9 +5,8 @@ promises.
 
 The prose is that of the pages. What stands in blocks and in the tables at the end is made anew. From
 the contracts of `aide_headline`, and from the laws of `aide_line_laws` that the second page begins
-with, this follows each name to its definition, and from there to the definitions that it uses, as
-tools/source/public_specs.py does for all public calls. A definition comes before those that it
-uses. With --write the pages are written; tests/source/check_docs.py compares them with the
+with, this follows each name to its definition, and from there to the definitions that it uses. A
+definition comes before those that it uses. With --write the pages are written; tests/source/test_docs.py compares them with the
 definitions.
 """
 from __future__ import annotations
@@ -21,7 +20,7 @@ from tests.lib.scratch import TOP, read
 from tools.lib.arguments import parser_of
 from tools.source.definition_lines import shown, users_first, wrapped
 from tools.source.definitions import WORD, Definitions, Place, Places, crates, imports_of
-from tools.source.headline_tables import library_words, members_of, types_of
+from tools.source.headline_tables import check_words, members_of, types_of
 from tools.source.worked_examples import ENTRIES, LISTS, examples_of, things_of
 
 PAGE, THEOREM_PAGE = "docs/HEADLINE.md", "docs/HEADLINE_LINES.md"
@@ -68,6 +67,7 @@ RUNS = [
 ]
 
 
+TYPES = "Types of the code"
 # A block of a page, between its fences.
 BLOCK = re.compile(r"(```\w+\n).*?(\n```\n)", re.S)
 
@@ -109,7 +109,6 @@ class Page:
         self.sections: dict[str, list[str]] = {}
         self.printed = list(printed)
         self.outside: list[Place] = []
-        self.known = list(printed)
 
     def text(self) -> str:
         """The page as it is, with these blocks and sections in place of those that it has."""
@@ -145,11 +144,6 @@ class Page:
         if self.examples:
             sys.exit(f"{file}: no page has {[place[2] for place in self.examples]}")
         self.blocks.append("\n".join(things_of(file)))
-
-    def end(self, known: Sequence[Place] = ()) -> None:
-        """The tables at the end; what is `known` from another page is left out."""
-        self.sections["Types of the code"] = types_of(self, known)
-        self.sections["Words of the toolchain's library"] = library_words(self.outside, known)
 
     def shown(self, places: Places) -> list[str]:
         """Lines with these definitions by file, users first."""
@@ -190,7 +184,7 @@ def theorem(definitions: Definitions, known: Places) -> Page:
     made.part("\n".join(laws), imports_of(text), stops)
     made.part(MAP[2], {MAP[2]: MAP}, VALUES)
     made.things(ENTRIES)
-    made.end(known)
+    made.sections[TYPES] = types_of(made.outside, known)
     return made
 
 
@@ -226,16 +220,19 @@ def pages() -> dict[str, str]:
     made.sections["What contracts see of the sources, the site and the sinks"] = members_of(
         [compare, program]
     )
-    made.end()
+    made.sections[TYPES] = types_of(made.outside)
     silent = theorem(definitions, made.outside)
     listed = lists(definitions, silent.printed)
-    listed.end(made.outside + silent.outside)
+    listed.sections[TYPES] = types_of(listed.outside, made.outside + silent.outside)
     lines = Page(definitions, LINES_PAGE, [*printed, *listed.printed])
     (program,) = lines.contracts((PROGRAM_LINES, "run_lines_program"))
     lines.part(program, imports_of(read(PROGRAM_LINES)), PREMISES + PREMISES_TRUSTED)
     lines.part(JSON[2], {JSON[2]: JSON})
-    lines.end(made.outside)
-    return {page.name: page.text() for page in (made, silent, listed, lines)}
+    lines.sections[TYPES] = types_of(lines.outside, made.outside)
+    every = (made, silent, listed, lines)
+    texts = {page.name: page.text() for page in every}
+    check_words([word for page in every for word in page.outside], "\n".join(texts.values()))
+    return texts
 
 
 def main() -> int:
