@@ -64,6 +64,8 @@ def judge(module: str, status: int, text: str, tally: Tally) -> None:
         failed = 1
     if failed or not ran:
         print(text, flush=True)
+    count = int(ran[-1]) if ran else 0
+    tally.passed += max(0, count - len(reasons) - failed)
     for reason in reasons:
         is_expected = EXPECTED.fullmatch(reason)
         print(
@@ -71,11 +73,9 @@ def judge(module: str, status: int, text: str, tally: Tally) -> None:
             flush=True,
         )
         failed += not is_expected
-    count = int(ran[-1]) if ran else 0
+    tally.failed += failed
     if not count:
         tally.add(module, ["it has no test"])
-    tally.passed += max(0, count - len(reasons) - failed)
-    tally.failed += failed
 
 
 def run_all(names: list[str], tally: Tally, program: str = "", is_quick: bool = False) -> None:
