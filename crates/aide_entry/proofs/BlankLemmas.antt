@@ -7,6 +7,9 @@ use Rattle.std.proofs.lemmas.Bool.{cases_lt}
 use Rattle.std.proofs.lemmas.Nat.{div-add-mod', mod_below}
 use Rattle.std.proofs.lemmas.Nat.Bits.{bit_at-zero, bit_at-suc, bit_at_lowest, bit_at-lt, bit_at_cat_high, same_from_bits}
 use Rattle.aide_entry.specs.Text.{is_blank}
+use Rattle.aide_entry.specs.code.Runs.{AreFound, AreMarked}
+use Rattle.aide_entry.specs.declared.runs.Found.{Found}
+use Rattle.aide_entry.specs.declared.span.Span.{Span}
 
 high_or : (x y : Bool) → (128 ≤ bit_or (cond x 255 0) (cond y 255 0)) ↔ (x || y ≡ true)
 high_or true true = (λ h. refl, λ h. omega arith)
@@ -19,35 +22,43 @@ pub lane_blank : (byte x y r : ℕ) → x ≡ cond (byte == 32) 255 0 → y ≡ 
     → (128 ≤ r) ↔ (is_blank byte ≡ true)
 lane_blank byte x y r e f g = rw (g, e, f) (high_or (byte == 32) (byte == 9))
 
--- no blank below a bit where none below it is set
-pub plain_below : (line : List ℕ) (from base end bits bit : ℕ)
-    → ((k : ℕ) → from ≤ k → k < base → is_blank (get_or line k 0) ≡ false)
-    → ((k : ℕ) → base + k < end → from ≤ base + k → bit_at bits k ≡ 0 → is_blank (get_or line (base + k) 0) ≡ false)
-    → ((k : ℕ) → k < bit → bit_at bits k ≡ 0) → base + bit ≤ end → (k : ℕ) → from ≤ k → k < base + bit
+-- a byte below one that was looked at, or one without a mark, is not blank
+plain_below : (line : List ℕ) (from base end bits last : ℕ)
+    → ((k : ℕ) → from ≤ k → k < base → is_blank (get_or line k 0) ≡ false) → AreMarked line from base end bits
+    → ((k : ℕ) → base + k < last → bit_at bits k ≡ 0) → last ≤ end → (k : ℕ) → from ≤ k → k < last
     → is_blank (get_or line k 0) ≡ false
-plain_below line from base end bits bit plain each below small k low lt =
+plain_below line from base end bits last plain marked none small k low lt =
     elim (cases_lt k base) [
       | inl before ↦ plain k low before
       | inr behind ↦
           let sum : base + (k - base) ≡ k = omega (arith, behind) in
           subst (λ (n : ℕ). is_blank (get_or line n 0) ≡ false) sum
-          (each (k - base) (omega (arith, lt, small, behind)) (omega (arith, low, behind))
-          (below (k - base) (omega (arith, lt, behind))))
+          (marked.each (k - base) (omega (arith, lt, small, behind)) (omega (arith, low, behind))
+          (none (k - base) (omega (arith, sum, lt))))
     ]
 
-pub plain_all : (line : List ℕ) (from base end bits : ℕ)
-    → ((k : ℕ) → from ≤ k → k < base → is_blank (get_or line k 0) ≡ false)
-    → ((k : ℕ) → base + k < end → from ≤ base + k → bit_at bits k ≡ 0 → is_blank (get_or line (base + k) 0) ≡ false)
-    → bits ≡ 0 → (k : ℕ) → from ≤ k → k < end → is_blank (get_or line k 0) ≡ false
-plain_all line from base end bits plain each none k low lt =
-    elim (cases_lt k base) [
-      | inl before ↦ plain k low before
-      | inr behind ↦
-          let sum : base + (k - base) ≡ k = omega (arith, behind) in
-          subst (λ (n : ℕ). is_blank (get_or line n 0) ≡ false) sum
-          (each (k - base) (omega (arith, lt, behind)) (omega (arith, low, behind))
-          (ap (λ n. bit_at n (k - base)) none ∙ bit_at-zero (k - base)))
-    ]
+-- the fields are found up to the lowest mark
+pub found_below : (line : List ℕ) (spans : List Span) (so_far : Found) (base end bits bit : ℕ)
+    → AreFound line spans so_far base end → AreMarked line so_far.begin base end bits
+    → ((k : ℕ) → k < bit → bit_at bits k ≡ 0) → bit_at bits bit ≡ 1 → AreFound line spans so_far (base + bit) (base + bit)
+found_below line spans so_far base end bits bit found marked below set = record {
+  few = found.few;
+  order = (marked.marks bit set).1;
+  plain = plain_below line so_far.begin base end bits (base + bit) found.plain marked (λ k lt. below k (omega (arith, lt)))
+      (omega (arith, (marked.marks bit set).0));
+  whole = found.whole;
+}
+
+-- they are found up to the end if no mark is left
+pub found_all : (line : List ℕ) (spans : List Span) (so_far : Found) (base end bits : ℕ) → AreFound line spans so_far base end
+    → AreMarked line so_far.begin base end bits → bits ≡ 0 → AreFound line spans so_far end end
+found_all line spans so_far base end bits found marked none = record {
+  few = found.few;
+  order = found.order;
+  plain = plain_below line so_far.begin base end bits end found.plain marked (λ k lt. ap (λ n. bit_at n k) none ∙ bit_at-zero k)
+      (omega arith);
+  whole = found.whole;
+}
 
 -- a number whose bits are all below an index is below that power of two
 pub below_from_bits : (n k : ℕ) → ((i : ℕ) → bit_at n i ≡ 1 → i < k) → n < 2 ^ k

@@ -5,3 +5,4 @@ pub mod ColumnAttrs
 pub mod Symbols
 pub mod Shapes
 pub mod TimeDigits
+pub mod Runs

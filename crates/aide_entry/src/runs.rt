@@ -1,9 +1,9 @@
 //! Finds the runs of bytes between blanks, which are the fields of a line.
-ghost use Rattle.std.specs.Prelude.{ℕ, slice_index, true, false, ◌≡◌, ◌+◌, ◌^◌, ◌<◌, ◌≤◌, [], ◌∷◌};
-ghost use Rattle.std.specs.Prelude.{◌++◌, length, take, drop, IfSome, IfNone};
-ghost use Rattle.std.specs.Int.{bit_at};
+ghost use Rattle.std.specs.Prelude.{slice_index, true, ◌≡◌, ◌+◌, ◌^◌, ◌<◌, ◌≤◌, [], ◌∷◌, ◌++◌};
+ghost use Rattle.std.specs.Prelude.{length, take, IfSome, IfNone};
 ghost use Rattle.aide_entry.specs.Text.{is_blank, fields};
 ghost use Rattle.aide_entry.specs.Spans.{fields_at};
+ghost use Rattle.aide_entry.specs.code.Runs.{AreFound, AreMarked};
 
 use crate::blanks::{bits_from, blanks_of_both, lowest_bit, without_lowest};
 use crate::span::Span;
@@ -31,64 +31,52 @@ pub struct Found {
     pub begin: usize,
 }
 
-/// Appends the span of the field that ends before the blank at `at`, if it is not empty. Returns the new number of
-/// spans.
-fn run_ends(
-    spanned: &mut [Span; 64],
-    count: usize,
-    line: &[u8],
-    from: usize,
-    at: usize,
-) -> Option<usize>
-    requires few { count ≤ 64 }
-    requires order { from ≤ at }
+/// Appends the span of the field that ends before the blank at `at`, if it is not empty. Returns how far the fields
+/// have been found then.
+fn run_ends(spanned: &mut [Span; 64], found: Found, line: &[u8], at: usize) -> Option<Found>
+    requires found { AreFound line.now spanned.old found at at }
     requires short { at < length line.now }
     requires small { length line.now < 2 ^ 32 }
-    requires plain { (k : ℕ) → from ≤ k → k < at → is_blank (slice_index line.now k) ≡ false }
     requires blank { is_blank (slice_index line.now at) ≡ true }
-    requires found { fields_at line.now (take count spanned.old) ++ fields (drop from line.now)
-        ≡ fields line.now }
-    ensures few { IfSome result (λ more. more ≤ 64) }
-    ensures found { IfSome result (λ more. fields_at line.now (take more spanned.new)
-        ++ fields (drop (at + 1) line.now) ≡ fields line.now) }
+    ensures found { IfSome result (λ more. AreFound line.now spanned.new more (at + 1) (at + 1)) }
+    ensures begin { IfSome result (λ more. more.begin ≡ at + 1) }
     ensures many { IfNone result (64 < length (fields line.now)) }
 {
     let _ = line;
-    if from == at {
-        return Some(count);
+    let begin = at + 1;
+    if found.begin == at {
+        return Some(Found {
+            count: found.count,
+            begin,
+        });
     }
     let span = Span {
-        start: from as u32,
-        len: (at - from) as u32,
+        start: found.begin as u32,
+        len: (at - found.begin) as u32,
     };
-    match add_span(spanned, count, span) {
+    match add_span(spanned, found.count, span) {
         None => None,
-        Some(more) => Some(more),
+        Some(count) => Some(Found { count, begin }),
     }
 }
 
 /// Appends the span of the field at the line's end, if it is not empty. Returns the new number of spans.
-fn line_ends(spanned: &mut [Span; 64], count: usize, line: &[u8], from: usize) -> Option<usize>
-    requires few { count ≤ 64 }
-    requires within { from ≤ length line.now }
+fn line_ends(spanned: &mut [Span; 64], found: Found, line: &[u8]) -> Option<usize>
+    requires found { AreFound line.now spanned.old found (length line.now) (length line.now) }
     requires small { length line.now < 2 ^ 32 }
-    requires plain { (k : ℕ) → from ≤ k → k < length line.now
-        → is_blank (slice_index line.now k) ≡ false }
-    requires found { fields_at line.now (take count spanned.old) ++ fields (drop from line.now)
-        ≡ fields line.now }
     ensures few { IfSome result (λ more. more ≤ 64) }
     ensures all { IfSome result (λ more. fields_at line.now (take more spanned.new)
         ≡ fields line.now) }
     ensures many { IfNone result (64 < length (fields line.now)) }
 {
-    if from == line.len() {
-        return Some(count);
+    if found.begin == line.len() {
+        return Some(found.count);
     }
     let span = Span {
-        start: from as u32,
-        len: (line.len() - from) as u32,
+        start: found.begin as u32,
+        len: (line.len() - found.begin) as u32,
     };
-    match add_span(spanned, count, span) {
+    match add_span(spanned, found.count, span) {
         None => None,
         Some(more) => Some(more),
     }
@@ -105,38 +93,21 @@ fn runs_among(
     end: usize,
     blanks: u64,
 ) -> Option<Found>
-    requires few { before.count ≤ 64 }
-    requires order { before.begin ≤ end }
+    requires found { AreFound line.now spanned.old before at end }
     requires within { end ≤ length line.now }
     requires near { end ≤ at + 64 }
     requires small { length line.now < 2 ^ 32 }
-    requires plain { (k : ℕ) → before.begin ≤ k → k < at
-        → is_blank (slice_index line.now k) ≡ false }
-    requires each { (k : ℕ) → at + k < end → before.begin ≤ at + k → bit_at blanks k ≡ 0
-        → is_blank (slice_index line.now (at + k)) ≡ false }
-    requires marks { (k : ℕ) → bit_at blanks k ≡ 1 → (at + k < end) × (before.begin ≤ at + k)
-        × (is_blank (slice_index line.now (at + k)) ≡ true) }
-    requires found { fields_at line.now (take before.count spanned.old)
-        ++ fields (drop before.begin line.now) ≡ fields line.now }
-    ensures few { IfSome result (λ found. found.count ≤ 64) }
-    ensures order { IfSome result (λ found. found.begin ≤ end) }
-    ensures plain { IfSome result (λ found. (k : ℕ) → found.begin ≤ k → k < end
-        → is_blank (slice_index line.now k) ≡ false) }
-    ensures found { IfSome result (λ found. fields_at line.now (take found.count spanned.new)
-        ++ fields (drop found.begin line.now) ≡ fields line.now) }
+    requires blanks { AreMarked line.now before.begin at end blanks }
+    ensures found { IfSome result (λ found. AreFound line.now spanned.new found end end) }
     ensures many { IfNone result (64 < length (fields line.now)) }
 {
     let mut found = before;
     let mut bits = blanks;
     'bits: while bits != 0 {
-        let blank = at + lowest_bit(bits);
-        let Some(count) = run_ends(spanned, found.count, line, found.begin, blank) else {
+        let Some(more) = run_ends(spanned, found, line, at + lowest_bit(bits)) else {
             return None;
         };
-        found = Found {
-            count,
-            begin: blank + 1,
-        };
+        found = more;
         bits = without_lowest(bits);
     }
     Some(found)
@@ -185,5 +156,5 @@ pub fn find_runs(spanned: &mut [Span; 64], line: &[u8]) -> Option<usize>
         found = more;
         base = later + 32;
     }
-    line_ends(spanned, found.count, line, found.begin)
+    line_ends(spanned, found, line)
 }
