@@ -1,10 +1,12 @@
 -- The outcome of asking a reel for the next chunk.
-use Rattle.std.specs.Prelude.{ℕ, ◌≡◌, true, List, [], ◌++◌, take}
+use Rattle.std.specs.Prelude.{ℕ, ◌≡◌, ◌≤◌, true, List, [], ◌++◌, length, take}
+use Rattle.std.specs.Prelude.{Result, IfOk, OnErr, OnOk}
 use Rattle.aide_entry.specs.Text.{is_filled}
 use Rattle.sha2.specs.Hashers.{Holds256}
 use Rattle.sha2.specs.declared.Sha256.{Sha256}
 use Rattle.aide_db.specs.Count.{one_more}
 use Rattle.aide_db.specs.declared.chunk_reader.Filled.{Filled}
+use Rattle.aide_db.specs.declared.fault.DeviceFault.{DeviceFault}
 use Rattle.aide_db.specs.declared.chunk_reader.Filled.TheVariants.{Some, Nothing, Failed}
 
 -- A chunk was read, and the bytes that are left follow it. Or no chunk was read: at the end of the bytes, or because
@@ -29,6 +31,17 @@ after_filled Failed n = one_more n
 -- this many bytes have come, and they are at the beginning of the chunk
 abbrev pub IsChunkFront : ℕ → List ℕ → List ℕ → List ℕ → Type 0
 IsChunkFront count chunk bytes left = bytes ≡ take count chunk ++ left
+
+-- What asking a reel for at most this many bytes makes of the chunk and of the count of failures.
+pub record IsReadInto (size : ℕ) (chunk chunk_now : List ℕ) (failures failures_now : ℕ)
+    (result : Result ℕ DeviceFault) : Type 0 where
+  -- the chunk keeps its length
+  pub long : length chunk_now ≡ length chunk
+  -- no more bytes have come than were asked for
+  pub most : IfOk result (λ count. count ≤ size)
+  -- a failed read counts one failure, and no other read counts one
+  pub fault : OnErr result (failures_now ≡ one_more failures)
+  pub ok : OnOk result (failures_now ≡ failures)
 
 -- The bytes still to use stay the same. If there was no byte, none is left.
 abbrev pub IsLeft : List ℕ → List ℕ → Filled → Type 0

@@ -4,8 +4,7 @@ ghost use Rattle.sha2.specs.Sha256.{sha256};
 ghost use Rattle.std.specs.Prelude.{ℕ, List, true, [], ◌++◌, Some, drop, length, IfOk, OnErr, OnOk};
 ghost use Rattle.std.specs.Prelude.{◌≡◌, ◌<◌, ◌≤◌, ◌==◌, IsSome};
 ghost use Rattle.aide_db.specs.NextChunk.{IsFilled, IsLeft, Gives, IsAhead, IsChunkFront};
-ghost use Rattle.aide_db.specs.NextChunk.{after_filled};
-ghost use Rattle.aide_db.specs.Count.{one_more};
+ghost use Rattle.aide_db.specs.NextChunk.{IsReadInto, after_filled};
 ghost use Rattle.aide_db.specs.Told.{told, tells};
 ghost use Rattle.aide_db.specs.code.ChunkReaderView.{ChunkReaderView, left_in};
 
@@ -166,8 +165,8 @@ impl<R: Reel> ChunkReader<R> {
 fn take_front<R: Reel>(reel: &mut R, chunk: &mut [u8], size: usize) -> Result<usize, DeviceFault>
     requires some { 0 < size }
     requires space { size ≤ length chunk.old }
-    ensures length { length chunk.new ≡ length chunk.old }
-    ensures most { IfOk result (λ count. count ≤ size) }
+    ensures read { IsReadInto size chunk.old chunk.new (R.failures reel.old) (R.failures reel.new)
+        result }
     ensures front { IfOk result (λ count. tells (R.to_come reel.old) ≡ true
         → IsChunkFront count chunk.new (told (R.to_come reel.old)) (told (R.to_come reel.new))) }
     ensures end { IfOk result (λ count. count ≡ 0 → tells (R.to_come reel.old) ≡ true
@@ -175,8 +174,6 @@ fn take_front<R: Reel>(reel: &mut R, chunk: &mut [u8], size: usize) -> Result<us
     ensures kept { OnErr result (tells (R.to_come reel.old) ≡ true
         → told (R.to_come reel.new) ≡ told (R.to_come reel.old)) }
     ensures tells { tells (R.to_come reel.old) ≡ true → tells (R.to_come reel.new) ≡ true }
-    ensures fault { OnErr result (R.failures reel.new ≡ one_more (R.failures reel.old)) }
-    ensures ok { OnOk result (R.failures reel.new ≡ R.failures reel.old) }
 {
     reel.read(&mut chunk[..size])
 }

@@ -1,16 +1,18 @@
 -- What private calls keep of a cursor, its chunks and its desk.
-use Rattle.std.specs.Prelude.{ℕ, ◌≡◌, ◌≤◌, ◌<◌, ◌+◌, ◌^◌, true, false, List, length, Result, IfErr}
+use Rattle.std.specs.Prelude.{ℕ, ◌≡◌, ◌≤◌, ◌<◌, ◌+◌, ◌^◌, max, true, false, List, length, Result, IfErr}
 use Rattle.aide_db.specs.Again.{StageAfter, StageAfterLine}
 use Rattle.aide_db.specs.code.ChunkReaderView.{ChunkReaderView}
 use Rattle.aide_db.specs.CursorView.{CursorView}
-use Rattle.aide_db.specs.Desk.{columns_of_side, list_of}
+use Rattle.aide_db.specs.Desk.{columns_of_side, held_of, list_of}
 use Rattle.aide_db.specs.DeskView.{DeskView}
 use Rattle.aide_db.specs.Holds.{IsDone}
 use Rattle.aide_db.specs.Kept.{OwnAfter, UsesMore, UsesTaken, IsNoRecord, peak_limit}
 use Rattle.aide_db.specs.Memory.{GoesOn, HasMemory, wants_memory}
+use Rattle.aide_db.specs.NextCall.{KeepsOtherSide}
 use Rattle.aide_db.specs.NextChunk.{Gives}
 use Rattle.aide_db.specs.Takes.{SpentAnswer, SpentAt, SpentTaken}
 use Rattle.aide_db.specs.Told.{told, tells}
+use Rattle.aide_entry.specs.declared.column.Column.{Column}
 use Rattle.aide_db.specs.declared.fault.DbFault.{DbFault}
 use Rattle.aide_db.specs.declared.limits.Limits.{Limits}
 use Rattle.aide_db.specs.declared.reel.Reel.{Ghosts as Reels}
@@ -29,6 +31,14 @@ pub record IsWithinLimit (limits : Limits) (used : ℕ) (ahead : List ℕ) : Typ
   pub given : used + length ahead ≤ limits.bytes + 1
   -- the limit is one that a cursor may have
   pub bytes : limits.bytes ≤ 2 ^ 60
+
+-- What taking bytes makes of the numbers of bytes used and of newlines among them.
+pub record CountsOn (used line used_now line_now : ℕ) : Type 0 where
+  -- neither falls
+  pub grows : used ≤ used_now
+  pub counts : line ≤ line_now
+  -- each newline is a byte that was used
+  pub fits : line_now ≤ used_now
 
 -- What taking bytes leaves of a reel that shows its bytes.
 pub record TellsOn {R : Type 0} (r : Reels R) (a b : ChunkReaderView R) : Type 0 where
@@ -52,6 +62,18 @@ pub record HoldsLine (limits : Limits) (d e : DeskView) : Type 0 where
   -- the peak does not fall, and a line within the limit bounds it
   pub peak : d.peak ≤ e.peak
   pub below : (side : Side) → e.peak ≤ peak_limit side d limits.line
+  -- the bytes that are held then were counted
+  pub grown : e.peak ≡ max d.peak (held_of e)
+
+-- What judging the line that was taken leaves of a desk.
+pub record HoldsJudged (side : Side) (d e : DeskView) (columns : List Column)
+    (result : Judgement) : Type 0 where
+  -- the other side and the room
+  pub other : KeepsOtherSide side d e
+  -- at an entry the side has a new entry line, and otherwise its entry is as before
+  pub own : OwnAfter side d e columns (length d.line) result
+  -- the peak is as before
+  pub peak : e.peak ≡ d.peak
 
 -- ---- the cursor
 
