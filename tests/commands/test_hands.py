@@ -50,11 +50,13 @@ class HandsTest(CommandTest):
         self.set_names("mail.sending", MAILERS=(self.path("stubs/sendmail"),))
         failed = "aide-compare.service failed%s. Its lines: journalctl -u aide-compare.service\n"
         none: dict[str, str] = {}
-        variables = {
-            "MONITOR_SERVICE_RESULT": "exit-code",
-            "MONITOR_EXIT_STATUS": "18",
-        }
-        for more, cause in ((none, ""), (variables, ": exit-code, status 18")):
+        before = {"MONITOR_SERVICE_RESULT": "exit-code"}
+        variables = {**before, "MONITOR_EXIT_STATUS": "18"}
+        for more, cause in (
+            (none, ""),
+            (before, ": exit-code, status unknown"),
+            (variables, ": exit-code, status 18"),
+        ):
             message = self.of_unit("aide-compare-failed.service", **more)
             self.assertEqual(mail.subject(message), mail.SUBJECT + "the comparison failed")
             self.assertEqual(mail.body(message), (failed % cause).encode())

@@ -268,9 +268,9 @@ def compare_and_mail(request: MailRequest) -> int:
 
 def failure_text(unit: str) -> str:
     """What a mail says of the unit that should have queued one and has failed. systemd 251 and
-    later say how, by variables."""
+    later say how, by variables, but give no status if what runs before the comparison failed."""
     result = os.environ.get("MONITOR_SERVICE_RESULT")
-    how = f": {result}, status {os.environ.get('MONITOR_EXIT_STATUS')}" if result else ""
+    how = f": {result}, status {os.environ.get('MONITOR_EXIT_STATUS', 'unknown')}" if result else ""
     return f"{unit} failed{how}. Its lines: journalctl -u {shlex.quote(unit)}\n"
 
 
