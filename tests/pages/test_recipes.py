@@ -74,9 +74,9 @@ class HandsTest(RecipesTest):
 
     def test_lines(self) -> None:
         self.put_files(of_sizes(BEFORE), of_sizes(INTRUDER))
-        self.assertEqual(self.recipe("lines").status, 0)
-        self.assertIn('"standing":"left out"', self.text_at("/tmp/lines"))
         self.needs("jq")
+        self.assertEqual(self.recipe("lines"), Answer(b"", b"", 0))
+        self.assertIn('"standing":"left out"', self.text_at("/tmp/lines"))
         self.assertEqual(self.recipe("one object"), Answer(b"", b"", 0))
         one, kinds = json.loads(self.text_at("/tmp/object.json")), ("added", "removed", "changed")
         counts = {kind: one["number_of_entries"][kind] for kind in kinds}
