@@ -13,6 +13,7 @@ from tests.lib.scratch import TOP, read
 from tests.pages.blocks import blocks_of
 from tests.source import public_specs
 from tools.source import headline_page
+from tools.source.checker import below, libraries
 from tools.source.definitions import crates
 
 MOST_LINES = {"README.md": 120, "docs/HEADLINE_LINES.md": 600}
@@ -155,6 +156,27 @@ class Docs(unittest.TestCase):
             named = set(re.findall(r"`(\w+)`", " ".join(rows)))
             self.assertTrue(named, call)
             self.assertEqual(named - promised_by(call, sources[call]), set(), call)
+
+    def test_crates_that_each_crate_uses(self) -> None:
+        """What PROVED says a crate uses is what crates.txt lists. `the crates below` need no names."""
+        uses = libraries()
+        parts = re.split(r"\n## `(\w+)`.*\n", self.pages["docs/PROVED.md"])
+        for crate, part in zip(parts[1::2], parts[2::2]):
+            for text in re.findall(r"^(?:.* )?(?:Uses|It uses) (.*?)\.\s", part, re.M | re.S)[:1]:
+                named = set(re.findall(r"`(\w+)`", text))
+                unnamed = set(uses) if "crates below" in text else set()
+                self.assertEqual(named | unnamed, set(uses[crate]) | unnamed, crate)
+
+    def test_crates_that_a_caller_copies(self) -> None:
+        """LIBRARY names all crates that a caller of either call needs."""
+        copied: set[str] = set()
+        for crate, first, last in (
+            ("aide_report", "for crate in ", "; do"),
+            ("aide_session", "A caller of `session` needs ", " too,"),
+        ):
+            text = self.pages["docs/LIBRARY.md"].partition(first)[2].partition(last)[0]
+            copied.update(re.findall(r"\baide_\w+", text))
+            self.assertEqual({crate, *below(crate, libraries())} - copied, set(), crate)
 
     def test_kinds_of_changes_have_texts_that_are_in_files(self) -> None:
         page = self.pages["docs/CONTRACTS.md"]
