@@ -6,12 +6,22 @@ import glob
 import json
 import os
 import re
+import shutil
 import unittest
 
 from tests.lib.answer import Answer
 from tests.lib.scratch import read
-from tests.pages.machine import HEAD, example
-from tests.pages.recipes import BEFORE, INTRUDER, NEW, OLD, RecipesTest, of_sizes, recipes
+from tests.pages.machine import HEAD, NOBODY, example
+from tests.pages.recipes import (
+    BEFORE,
+    INTRUDER,
+    METRICS,
+    NEW,
+    OLD,
+    RecipesTest,
+    of_sizes,
+    recipes,
+)
 
 
 class HandsTest(RecipesTest):
@@ -94,6 +104,22 @@ class HandsTest(RecipesTest):
         done = self.recipe("order")
         self.assertEqual(done.status, 24)
         self.assertIn("appears twice: /a\n", done.error_text)
+
+    def test_metrics_of_debian(self) -> None:
+        """The directory of Debian's node exporter is root's, in one of another user."""
+        self.needs_root()
+        self.put_pair(OLD, NEW)
+        self.assertEqual(self.recipe("mail").status, 7)
+        os.chown(self.path("/var/lib/prometheus"), NOBODY, NOBODY)
+        refused = self.recipe("metrics")
+        self.assertEqual(refused.status, 18, refused)
+        self.assertTrue(refused.error_text.endswith("Permission denied\n"), refused)
+        self.write(
+            "/stubs/chown", f'#!/bin/sh\nexec {shutil.which("chown")} {NOBODY} "$2"\n', 0o755
+        )
+        self.assertEqual(self.recipe("metrics directory"), Answer(b"", b"", 0))
+        self.assertEqual(self.recipe("metrics"), Answer(b"", b"", 0))
+        self.assertEqual(os.stat(self.path(METRICS)).st_uid, NOBODY)
 
     def test_mail(self) -> None:
         self.put_pair(OLD, NEW)
