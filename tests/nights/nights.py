@@ -1,4 +1,3 @@
-#!/usr/bin/env python3
 """Nights of booted Debian machines with each mail system, by hand: what differs, and what is
 mailed.
 

@@ -1,4 +1,3 @@
-#!/usr/bin/env python3
 """Tries what docs/DIFFERENCES.md says of AIDE, on AIDE itself and on the built program.
 
 Each case is one configuration and one pair of databases, given to both programs. If AIDE is not

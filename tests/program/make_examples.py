@@ -1,4 +1,3 @@
-#!/usr/bin/env python3
 """Makes the databases in examples/ that AIDE has written, of a small tree before and after some
 changes.
 
