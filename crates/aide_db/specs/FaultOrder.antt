@@ -11,7 +11,7 @@ use Rattle.aide_entry.specs.Fields.{columns_of, are_columns, most_columns}
 use Rattle.aide_entry.specs.Entry.{path_of, is_path, is_before, has_form}
 use Rattle.aide_db.specs.Database.{whole_lines, IsFront}
 use Rattle.aide_entry.specs.declared.column.Column.{Column}
-use Rattle.aide_entry.specs.declared.column.Column.TheVariants.{Name, Bits, Of, Skipped}
+use Rattle.aide_entry.specs.declared.column.Column.TheVariants.{Bits, Of}
 use Rattle.aide_entry.specs.declared.line.LineKind.{LineKind}
 use Rattle.aide_entry.specs.declared.line.LineKind.TheVariants as kinds
 use Rattle.aide_db.specs.declared.limits.Limits.{Limits}
@@ -127,17 +127,14 @@ is_digest_form _ = false
 
 -- the fields of the column are numbers
 abbrev pub is_of_numbers : Column → Bool
-is_of_numbers Name = false
 is_of_numbers Bits = true
 is_of_numbers (Of attr) = is_number_form (form_of attr)
-is_of_numbers Skipped = false
+is_of_numbers _ = false
 
 -- the column is that of an attribute whose values pass this test of forms
 abbrev pub is_of_form : (Form → Bool) → Column → Bool
-is_of_form test Name = false
-is_of_form test Bits = false
 is_of_form test (Of attr) = test (form_of attr)
-is_of_form test Skipped = false
+is_of_form test _ = false
 
 -- the column of this number passes the test, and the field under it is not of the form that the column asks for
 abbrev pub has_bad_field : (Column → Bool) → List Column → List ℕ → ℕ → Bool

@@ -17,11 +17,8 @@ wants_memory (Err fault) = is_memory fault.kind
 
 -- the cursor at this stage has returned out of memory
 abbrev pub wanted_memory : Stage → Bool
-wanted_memory stages.Start = false
-wanted_memory stages.Begun = false
-wanted_memory stages.Entries = false
-wanted_memory stages.Ended = false
 wanted_memory (stages.Failed fault) = is_memory fault.kind
+wanted_memory _ = false
 
 -- a line is read without running out of memory
 abbrev pub HasMemory : Taken → Type 0
@@ -30,7 +27,5 @@ HasMemory _ = Unit {0}
 
 -- one more line is read without running out of memory
 abbrev pub GoesOn : Judgement → Type 0
-GoesOn (judged.NoEntry stage) = Unit {0}
-GoesOn judged.Entry = Unit {0}
-GoesOn judged.End = Unit {0}
 GoesOn (judged.Fault kind) = is_memory kind ≡ false
+GoesOn _ = Unit {0}

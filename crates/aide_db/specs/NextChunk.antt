@@ -19,14 +19,12 @@ IsFilled bytes left ahead Failed = left ≡ bytes
 -- bytes are ahead if the outcome is `Some`, and otherwise none are
 abbrev pub IsAhead : List ℕ → Filled → Type 0
 IsAhead ahead Some = is_filled ahead ≡ true
-IsAhead ahead Nothing = ahead ≡ []
-IsAhead ahead Failed = ahead ≡ []
+IsAhead ahead _ = ahead ≡ []
 
 -- the count of failures after asking for a chunk
 abbrev pub after_filled : Filled → ℕ → ℕ
-after_filled Some n = n
-after_filled Nothing n = n
 after_filled Failed n = one_more n
+after_filled _ n = n
 
 -- this many bytes have come, and they are at the beginning of the chunk
 abbrev pub IsChunkFront : ℕ → List ℕ → List ℕ → List ℕ → Type 0

@@ -19,43 +19,37 @@ cause_of _ = in_text
 
 -- memory is at fault
 abbrev pub from_memory : Cause → Bool
-from_memory in_text = false
-from_memory in_length = false
 from_memory in_memory = true
-from_memory in_device = false
-
--- the device is at fault
-abbrev pub from_device : Cause → Bool
-from_device in_text = false
-from_device in_length = false
-from_device in_memory = false
-from_device in_device = true
-
--- memory or the device is at fault, and not the text
-abbrev pub from_outside : Cause → Bool
-from_outside in_text = false
-from_outside in_length = false
-from_outside in_memory = true
-from_outside in_device = true
-
--- the first claim if the text is at fault, and the second one if memory or the device is
-abbrev pub ByCause : Cause → Type 0 → Type 0 → Type 0
-ByCause in_text P Q = P
-ByCause in_length P Q = P
-ByCause in_memory P Q = Q
-ByCause in_device P Q = Q
+from_memory _ = false
 
 -- the fault is out of memory
 abbrev pub is_memory : DbFaultKind → Bool
 is_memory kind = from_memory (cause_of kind)
 
--- the device is at fault
-abbrev pub is_read : DbFaultKind → Bool
-is_read kind = from_device (cause_of kind)
+-- memory or the device is at fault, and not the text
+abbrev pub from_outside : Cause → Bool
+from_outside in_memory = true
+from_outside in_device = true
+from_outside _ = false
 
 -- memory or the device is at fault, and not the text
 abbrev pub is_outside : DbFaultKind → Bool
 is_outside kind = from_outside (cause_of kind)
+
+-- the first claim if the text is at fault, and the second one if memory or the device is
+abbrev pub ByCause : Cause → Type 0 → Type 0 → Type 0
+ByCause in_memory P Q = Q
+ByCause in_device P Q = Q
+ByCause _ P Q = P
+
+-- the device is at fault
+abbrev pub from_device : Cause → Bool
+from_device in_device = true
+from_device _ = false
+
+-- the device is at fault
+abbrev pub is_read : DbFaultKind → Bool
+is_read kind = from_device (cause_of kind)
 
 -- neither the device nor memory is at fault
 abbrev pub IsOfText : DbFaultKind → Type 0

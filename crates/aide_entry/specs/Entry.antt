@@ -58,10 +58,8 @@ follows columns last line = if is_filled last then is_before columns last line e
 
 -- the fault of a column whose field does not have its form
 abbrev pub fault_of_column : Column → ℕ → DbFaultKind
-fault_of_column Name number = BadNumber number
-fault_of_column Bits number = BadNumber number
 fault_of_column (Of attr) number = fault_of_form (form_of attr) number
-fault_of_column Skipped number = BadNumber number
+fault_of_column _ number = BadNumber number
 
 -- the fault of the first column whose field does not have its form; the columns are counted from this number
 abbrev pub first_bad_from : ℕ → List (Column × List ℕ) → Option DbFaultKind

@@ -28,9 +28,7 @@ columns_of line = map column_named (drop 1 (fields line))
 -- the column of paths
 abbrev pub is_name : Column → Bool
 is_name Name = true
-is_name Bits = false
-is_name (Of attr) = false
-is_name Skipped = false
+is_name _ = false
 
 -- the column of the bits that say which attributes an entry has
 abbrev pub is_bits : Column → Bool
@@ -41,10 +39,8 @@ is_bits Skipped = false
 
 -- an unknown column
 abbrev pub is_skipped : Column → Bool
-is_skipped Name = false
-is_skipped Bits = false
-is_skipped (Of attr) = false
 is_skipped Skipped = true
+is_skipped _ = false
 
 -- the column of this attribute
 abbrev pub is_of : Attr → Column → Bool

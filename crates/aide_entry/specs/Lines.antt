@@ -29,24 +29,16 @@ kind_of line = kind_of_fields (fields line)
 -- lines of this kind are skipped
 abbrev pub is_blank_kind : LineKind → Bool
 is_blank_kind Blank = true
-is_blank_kind Begin = false
-is_blank_kind Spec = false
-is_blank_kind End = false
-is_blank_kind Directive = false
-is_blank_kind Other = false
-
--- the kind is that of an end line
-abbrev pub is_end_kind : LineKind → Bool
-is_end_kind Blank = false
-is_end_kind Begin = false
-is_end_kind Spec = false
-is_end_kind End = true
-is_end_kind Directive = false
-is_end_kind Other = false
+is_blank_kind _ = false
 
 -- the line is not skipped
 abbrev pub counts : List ℕ → Bool
 counts line = not (is_blank_kind (kind_of line))
+
+-- the kind is that of an end line
+abbrev pub is_end_kind : LineKind → Bool
+is_end_kind End = true
+is_end_kind _ = false
 
 -- the line is an end line
 abbrev pub is_end : List ℕ → Bool

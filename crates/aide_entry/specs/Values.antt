@@ -115,10 +115,6 @@ is_field Opaque field = true
 
 -- the fault of a column whose field is not one of this form
 abbrev pub fault_of_form : Form → ℕ → DbFaultKind
-fault_of_form Kind column = BadNumber column
-fault_of_form Mode column = BadNumber column
-fault_of_form Number column = BadNumber column
 fault_of_form Time column = BadTime column
-fault_of_form Link column = BadNumber column
 fault_of_form (Digest least most) column = BadDigest column
-fault_of_form Opaque column = BadNumber column
+fault_of_form _ column = BadNumber column

@@ -6,7 +6,7 @@ use Rattle.aide_db.specs.Desk.{list_of, columns_of_side}
 use Rattle.aide_entry.specs.declared.column.Column.{Column}
 use Rattle.aide_db.specs.declared.side.Side.{Side}
 use Rattle.aide_db.specs.declared.judge.Judgement.{Judgement}
-use Rattle.aide_db.specs.declared.judge.Judgement.TheVariants.{NoEntry, Entry, End, Fault}
+use Rattle.aide_db.specs.declared.judge.Judgement.TheVariants.{Entry}
 
 -- the line that was read has become the side's entry
 pub record HasAccepted (side : Side) (columns : List Column) (old new : DeskView) : Type 0 where
@@ -20,7 +20,5 @@ pub record HasAccepted (side : Side) (columns : List Column) (old new : DeskView
 
 -- the state of a desk after a judgement: only an entry changes the desk
 abbrev pub IsAccepted : Side → List Column → DeskView → DeskView → Judgement → Type 0
-IsAccepted side columns old now (NoEntry stage) = now ≡ old
 IsAccepted side columns old now Entry = HasAccepted side columns old now
-IsAccepted side columns old now End = now ≡ old
-IsAccepted side columns old now (Fault kind) = now ≡ old
+IsAccepted side columns old now _ = now ≡ old
