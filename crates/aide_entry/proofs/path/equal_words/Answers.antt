@@ -3,11 +3,10 @@ use Rattle.aide_entry.proofs.CutLemmas.{front_more, same_word}
 use Rattle.aide_entry.proofs.path.equal_words.Goals as goal
 
 pub words-preserved : goal.words-preserved
-words-preserved c =
-    let w = c.words.invariant in
-    let m = front_more c.args.x.now c.args.y.now c.words.left.now c.words.right.now _ _ c.words.count c.args.size
-    (record { left_at = w.left_at; right_at = w.right_at; left_in = w.left_in; right_in = w.right_in; same = w.same })
-    c.split_at.ensures.back c.split_at-in-words.ensures.back c.words-test.true c.if-right-size.true
-    (sym c.split_at.ensures.front ∙ (same_word c.split_at.result.0.now c.split_at-in-words.result.0.now c.if-ne.ensures
-    ∙ c.split_at-in-words.ensures.front)) in
-    record { some = w.some; left_at = m.left_at; right_at = m.right_at; left_in = m.left_in; right_in = m.right_in; same = m.same }
+words-preserved c = record {
+  some = c.words.invariant.some;
+  front = front_more c.args.x.now c.args.y.now c.words.left.now c.words.right.now _ _ c.words.count c.args.size c.words.invariant.front
+      c.split_at.ensures.back c.split_at-in-words.ensures.back c.words-test.true c.if-right-size.true
+      (sym c.split_at.ensures.front ∙ (same_word c.split_at.result.0.now c.split_at-in-words.result.0.now c.if-ne.ensures
+      ∙ c.split_at-in-words.ensures.front));
+}
