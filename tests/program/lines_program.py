@@ -7,7 +7,7 @@ from typing import Any, Dict
 
 from tests.lib.answer import Answer, difference, run, shown
 from tests.lib.program_test import ProgramTest
-from tests.oracle.files import wanted_lines
+from tests.oracle.files import wanted, wanted_lines
 from tests.oracle.session import USAGE
 
 # The members of an object, each name once.
@@ -55,9 +55,10 @@ class LinesProgramTest(ProgramTest):
         return faults
 
     def beside(self, words: list[bytes]) -> tuple[int, list[str]]:
-        """The status that is wanted, and what is not as wanted."""
-        want = wanted_lines(words)
-        return want.status, self.lines_faults(words, want, run(self.program, words))
+        """The status that is wanted, and what is not as wanted of the lines and of the report."""
+        want, report = wanted_lines(words), run(self.program, words)
+        faults = difference(report, wanted(words))
+        return want.status, faults + self.lines_faults(words, want, report)
 
     def ends(self, label: str, words: list[bytes], *statuses: int) -> None:
         """A session, which has to end with one of these statuses if there are any."""

@@ -2,7 +2,6 @@
 always the same one."""
 from __future__ import annotations
 
-import collections
 import os
 import random
 import shutil
@@ -10,9 +9,7 @@ import tempfile
 from collections.abc import Callable
 from typing import List, Tuple
 
-from tests.lib.answer import difference, run
 from tests.lib.tally import side_by_side
-from tests.oracle.files import wanted
 from tests.program.random_texts.configurations import random_configuration, random_words
 from tests.program.random_texts.databases import random_pair
 from tests.program.random_texts.trusted import random_four, random_words_beside
@@ -24,6 +21,12 @@ Make = Callable[[int, int, bytes], List[bytes]]
 Check = Callable[[List[bytes]], Tuple[int, List[str]]]
 
 
+# The names of folders: most are plain, and others have blanks, a newline, bytes above 127 or a great
+# length.
+FOLDERS = 8 * [b"plain"] + [b" ends ", "\xe9 \u20ac \U0001f332".encode(), b"-E", b"#x = y", b"a\nb"]
+FOLDERS += [b"a\xffb", b"/".join([b"d" * 249] * 6)]
+
+
 def write(path: bytes, text: bytes) -> None:
     with open(path, "wb") as file:
         file.write(text)
@@ -33,6 +36,8 @@ def make_session(seed: int, number: int, folder: bytes) -> list[bytes]:
     """Writes the files of a session and gives its words."""
     pick = random.Random("%d %d" % (seed, number))
     bad = pick.choice([0, 0, 0, 0.1, 0.5])
+    folder = os.path.join(folder, pick.choice(FOLDERS))
+    os.makedirs(folder)
     config = os.path.join(folder, b"conf")
     write(config, random_configuration(pick, folder, bad))
     for name, text in zip((b"old", b"new"), random_pair(pick)):
@@ -54,26 +59,17 @@ def make_session_beside(seed: int, number: int, folder: bytes) -> list[bytes]:
     return random_words_beside(pick, folder, config, bad)
 
 
-def beside_definitions(program: bytes, words: list[bytes]) -> tuple[int, list[str]]:
-    """The status that is wanted, and what is not as wanted."""
-    want = wanted(words)
-    return want.status, difference(run(program, words), want)
-
-
-def try_session(
-    check: Check, seed: int, number: int, top: bytes, make: Make
-) -> tuple[int, list[str]]:
-    """The status that is wanted of a session, and what is not as wanted; `check` gives both for
-    words."""
+def try_session(check: Check, seed: int, number: int, top: bytes, make: Make) -> list[str]:
+    """What is not as wanted of a session."""
     folder = os.path.join(top, b"%d" % number)
     os.mkdir(folder)
     words = make(seed, number, folder)
-    status, faults = check(words)
+    _, faults = check(words)
     if not faults:
         shutil.rmtree(folder)
     else:
         faults.append("its files are in %s, its words are %r" % (os.fsdecode(folder), words))
-    return status, faults
+    return faults
 
 
 def try_sessions(
@@ -83,17 +79,13 @@ def try_sessions(
     jobs: int,
     tally: AnswerTest,
     make: Make = make_session,
-) -> collections.Counter[int]:
-    """Tries so many sessions, which `make` writes; the files of those that went wrong are kept.
-    Gives how many wanted which status."""
+) -> None:
+    """Tries so many sessions, which `make` writes; the files of those that went wrong are kept."""
     top = tempfile.mkdtemp(prefix="sessions-").encode()
-    statuses: collections.Counter[int] = collections.Counter()
     results = side_by_side(
         jobs, lambda number: try_session(check, seed, number, top, make), numbers
     )
-    for number, (status, faults) in zip(numbers, results):
+    for number, faults in zip(numbers, results):
         tally.add("seed %d, session %d" % (seed, number), faults)
-        statuses[status] += 1
     if not os.listdir(top):
         os.rmdir(top)
-    return statuses
