@@ -19,7 +19,6 @@ from tests.program.random_sessions import try_sessions
 from tests.program.real_files.test_devices import check_outputs
 from tests.program.real_files.folder import EMPTY, NEW, OLD, SKIPPING, Folder
 from tests.program.real_files.test_outside import check_file_sizes
-from tests.program.test_configurations import with_all
 
 # Of names with each byte: alone, behind a letter, and behind the first byte of a character of two,
 # three or four.
@@ -35,11 +34,9 @@ def both_jobs(folder: Folder) -> list[tuple[str, list[bytes]]]:
 
 
 class LinesTest(LinesProgramTest):
-    def compared(
-        self, label: str, old: bytes, new: bytes, *statuses: int, options: bytes = b""
-    ) -> None:
+    def compared(self, label: str, old: bytes, new: bytes, *statuses: int) -> None:
         with Folder() as folder:
-            folder.pair(old, new, options)
+            folder.pair(old, new)
             self.ends(label, folder.words(), *statuses)
 
     def checked(self, text: bytes) -> None:
@@ -76,7 +73,7 @@ class LinesTest(LinesProgramTest):
                 self.ends("a database named %r" % name, folder.words(), 0, 17)
 
     def test_names(self) -> None:
-        """Names of entries with each byte, and links to each."""
+        """Names of entries in odd spellings and with each byte, and links to each."""
         texts = sorted(
             {
                 front + bytes([byte]) + back
@@ -87,6 +84,9 @@ class LinesTest(LinesProgramTest):
         )
         named = b"".join(b"/" + coded(text) + b" 1\n" for text in texts if b"/" not in text)
         named = b"@@begin_db\n@@db_spec name size\n" + named + b"@@end_db\n"
+        for name in (b"/x%2", b"/x%252", b"/x%0Ay%zz", b"%2fa%2Fb", b"/%C3%a9\xff"):
+            text = b"@@begin_db\n@@db_spec name\n%s\n@@end_db\n" % name
+            self.compared(f"a name that is spelled {shown(name)}", EMPTY, text, 1)
         self.compared("names of each byte, removed", named, EMPTY, 2)
         self.compared("names of each byte, added", EMPTY, named, 1)
         linked = b"".join(
@@ -97,13 +97,6 @@ class LinesTest(LinesProgramTest):
             for end in (b"x", b"y")
         )
         self.compared("links to each byte", old, new, 4)
-
-    def test_attributes(self) -> None:
-        """All attributes in one entry, added, removed and forced; test_fields has each by itself."""
-        self.compared("all attributes, added", EMPTY, with_all(), 1)
-        self.compared("all attributes, removed", with_all(), EMPTY, 2)
-        forced = b"report_force_attrs=R+H+X\n"
-        self.compared("all forced", with_all(), with_all(uid=b"9"), 4, options=forced)
 
     def test_outputs(self) -> None:
         with Folder() as folder:
