@@ -7,15 +7,13 @@ from collections.abc import Callable
 
 from tests.lib.answer import Answer, difference, run
 from tests.lib.program_test import ProgramTest, slow
-from tests.lib.tally import side_by_side
 
 from .test_fifos import Feeder
 from .folder import NEW, Folder
-from .watch import Watch
 
 MEGABYTE, GIGABYTE = 2**20, 2**30
 MINIMAL = b"report_level=minimal\n"
-NO_MEMORY, NOT_WRITTEN = b"aide: out of memory\n", b"aide: cannot write the report\n"
+NOT_WRITTEN = b"aide: cannot write the report\n"
 TOO_LARGE = b"aide: the configuration is longer than 4194304 bytes\n"
 DEVICES = [
     ("old", "/dev/zero", b"line too long"),
@@ -25,58 +23,10 @@ DEVICES = [
 ]
 # A line may have a megabyte. The program and the FIFO have room for some of the bytes after it.
 MOST_TAKEN = 2 * MEGABYTE
-KINDS = RIGHT, TOLD, UNBORN = "right", "told", "unborn"
-JOBS = 2
-# Limits of memory in kB: the steps in which the range is looked for, the last one, and the steps
-# through the range.
-COARSE, MOST_MEMORY, PAGE = 64, 16 * 1024, 4
-LIMITED = b'ulimit -v $0; exec "$@"'
 
 
 def limited(what: int, most: int) -> Callable[[], None]:
     return lambda: resource.setrlimit(what, (most, most))
-
-
-def is_unborn(answer: Answer, has_opened: bool) -> bool:
-    """Whether the system could not start the program: it ended before it opened a file, and not by
-    its own words."""
-    is_ended = answer.status < 0 or answer.status in (126, 127)
-    return (
-        not has_opened
-        and is_ended
-        and answer.output == b""
-        and not answer.errors.startswith(b"aide: ")
-    )
-
-
-def kind_of(answer: Answer, want: Answer, has_opened: bool) -> str:
-    """What less memory has led to: the right answer, want of memory, no start, or else what it
-    was."""
-    if answer == want:
-        return RIGHT
-    if answer == Answer(b"", NO_MEMORY, 22):
-        return TOLD
-    return UNBORN if is_unborn(answer, has_opened) else repr(answer)
-
-
-def kinds_in_turn(program: bytes, limits: range) -> dict[int, str]:
-    """What becomes of the program under limits of its memory, in kB."""
-    with Folder() as folder:
-        folder.pair()
-        want, kinds = folder.wanted(), {}
-        for most in limits:
-            with Watch(folder.at("conf")) as watch:
-                answer = run(b"/bin/sh", [b"-c", LIMITED, b"%d" % most, program] + folder.words())
-                kinds[most] = kind_of(answer, want, watch.has_opened())
-        return kinds
-
-
-def kinds_by_limit(program: bytes, limits: range) -> dict[int, str]:
-    """The same, several at a time."""
-    parts = side_by_side(
-        JOBS, lambda part: kinds_in_turn(program, part), [limits[job::JOBS] for job in range(JOBS)]
-    )
-    return {most: kind for part in parts for most, kind in part.items()}
 
 
 def check_file_sizes(
@@ -115,19 +65,6 @@ class OutsideTest(ProgramTest):
             folder.pair()
             want = folder.wanted()
             check_file_sizes(self, "a report", self.program, folder.words(), want, 31)
-
-    def test_memory(self) -> None:
-        """Less and less memory, a page at a time between no start and the right answer: nothing
-        else comes but 22."""
-        coarse = kinds_by_limit(self.program, range(COARSE, MOST_MEMORY, COARSE))
-        born = min(most for most, kind in coarse.items() if kind != UNBORN)
-        works = max(most for most, kind in coarse.items() if kind != RIGHT)
-        fine = kinds_by_limit(self.program, range(born - COARSE, works + COARSE, PAGE))
-        for kinds in (coarse, fine):
-            for most, kind in sorted(kinds.items()):
-                self.holds("little memory", kind in KINDS, "%d kB gave %s" % (most, kind))
-        seen = set(KINDS) & set(fine.values())
-        self.holds("little memory, all answers", len(seen) == len(KINDS), seen)
 
     def test_descriptors(self) -> None:
         """So few descriptors that not both databases can be open: of four, three are taken."""
