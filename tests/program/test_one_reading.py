@@ -5,22 +5,17 @@ After a fault the output is a beginning of the lines, and has no last line.
 """
 from __future__ import annotations
 
-import functools
 import os
 import subprocess
-import threading
 import time
 from collections.abc import Callable
 
-from tests.lib.answer import Answer, run
-from tests.lib.program_test import slow
+from tests.lib.answer import Answer
 from tests.oracle.files import wanted_lines
 from tests.program.real_files.folder import EMPTY, FILES, NEW, OLD, SKIPPING, Folder, names
 from tests.program.real_files.test_fifos import fed
 from tests.program.lines_program import LinesProgramTest
 
-RUNS = 60
-ENTRIES = 3000
 # So many bytes are in a pipe that nobody reads.
 PIPE = 1 << 16
 
@@ -47,41 +42,9 @@ def read_slowly(program: bytes, words: list[bytes], at_first: Callable[[], None]
     return Answer(output, errors, process.wait())
 
 
-class Turning:
-    """Something that is done again and again beside the runs."""
-
-    def __init__(self, steps: list[Callable[[], None]]) -> None:
-        self.steps, self.is_over = steps, threading.Event()
-        self.thread = threading.Thread(target=self.turn, daemon=True)
-
-    def turn(self) -> None:
-        while not self.is_over.is_set():
-            for step in self.steps:
-                step()
-                time.sleep(0.004)
-
-    def __enter__(self) -> None:
-        self.thread.start()
-
-    def __exit__(self, *_: object) -> None:
-        self.is_over.set()
-        self.thread.join()
-
-
 def replace(folder: Folder, name: str, text: bytes) -> None:
     folder.write("next", text)
     os.replace(folder.at("next"), folder.at(name))
-
-
-def resize(folder: Folder, name: str, text: bytes) -> None:
-    """Makes a file that holds the front of a text, or more than it, hold just this text, in one
-    step."""
-    size = os.path.getsize(folder.at(name))
-    with open(folder.at(name), "ab", buffering=0) as file:
-        if size > len(text):
-            file.truncate(len(text))
-        else:
-            file.write(text[size:])
 
 
 class OneReadingTest(LinesProgramTest):
@@ -119,30 +82,3 @@ class OneReadingTest(LinesProgramTest):
                 answer = read_slowly(self.lines_program, words, replace_all)
                 self.check(f"{len(texts)} databases", answer, want)
                 self.holds("a full pipe", len(answer.output) > 3 * PIPE, len(answer.output))
-
-    def check_turning(
-        self, way: Callable[[Folder, str, bytes], None], name: str, texts: tuple[bytes, bytes]
-    ) -> None:
-        """Runs while a database turns from one text into another: each gives the lines of a whole
-        one, with its digest."""
-        label = f"{way.__name__}, {name}"
-        with Folder() as folder:
-            gone = names(ENTRIES)
-            words = folder.put([gone, EMPTY, gone, EMPTY])
-            answers = []
-            for text in texts:
-                folder.write(name, text)
-                answers.append(wanted_lines(words))
-            with Turning([functools.partial(way, folder, name, text) for text in texts]):
-                for _ in range(RUNS):
-                    answer = run(self.lines_program, words)
-                    self.holds(label, answer in answers, answer)
-        self.holds(f"{label}, two answers", answers[0] != answers[1])
-
-    @slow
-    def test_replaced(self) -> None:
-        """A database that is replaced, or grows and shrinks, while it is read."""
-        for name in FILES:
-            text = names(ENTRIES)
-            self.check_turning(replace, name, (text, EMPTY))
-            self.check_turning(resize, name, (text, text + b"more\n"))
