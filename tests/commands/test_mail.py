@@ -52,11 +52,13 @@ class TextsTest(MailTest):
     def test_errors(self) -> None:
         """What could not be compared is mailed. What was typed wrong is refused without a mail, and
         a unit or cron that has it says so itself; a fault of the defaults is mailed."""
-        for words, status in ((["old.db", "missing"], 18), (["old.db", "/dev/null"], 18)):
-            self.expect("an error of %s" % words, call(self, *words), status, b"", b"")
+        self.write("cut.db", NEW[:-9])
+        self.write("cut.db.gz", self.read("new.db.gz")[:-1])
+        for new, status in (("missing", 18), ("/dev/null", 18), ("cut.db", 24), ("cut.db.gz", 18)):
+            self.expect(f"an error of {new}", call(self, "old.db", new), status, b"", b"")
             message = sent(self)
             self.assertEqual(subject(message), SUBJECT + "no comparison (status %d)" % status)
-            self.assertTrue(body(message).startswith(b"aide-compare"), words)
+            self.assertRegex(body(message), rb"\Aaide(-compare)?: ", new)
         self.write("etc/defaults", "--odd\n")
         self.assertEqual(call(self, "old.db", "new.db").status, 15)
         self.assertIn("this option cannot be a default: --odd", words_of(body(sent(self))))
