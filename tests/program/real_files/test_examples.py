@@ -7,7 +7,6 @@ import re
 
 from tests.lib.answer import run
 from tests.lib.program_test import ProgramTest
-from tests.oracle.configuration import LEVELS
 from tests.oracle.files import wanted
 
 EXAMPLES = os.path.realpath(
@@ -19,24 +18,11 @@ LABELS = {
     "removed": "Removed entries",
     "changed": "Changed entries",
 }
-BOOLS = ["yes", "no"]
 
 
-def words_for(folder: str, *more: bytes) -> list[bytes]:
-    return [
-        b"-E",
-        b"-c",
-        os.fsencode(os.path.join(folder, "aide.conf")),
-        b"-B",
-        os.fsencode("@@define DIR " + folder),
-    ] + list(more)
-
-
-def words_at(folder: str, options: str) -> list[bytes]:
-    """The words that compare the databases of a folder under these options, which leave out those
-    of its configuration."""
-    before = "@@define DIR %s\n%s\nreport_url=stdout" % (folder, options)
-    return words_for(folder)[:-1] + [os.fsencode(before)]
+def words_for(folder: str) -> list[bytes]:
+    conf = os.fsencode(os.path.join(folder, "aide.conf"))
+    return [b"-E", b"-c", conf, b"-B", os.fsencode("@@define DIR " + folder)]
 
 
 def folders_of_aide() -> list[str]:
@@ -66,8 +52,8 @@ def counted(output: bytes) -> dict[str, int | None]:
 
 class ExamplesTest(ProgramTest):
     def test_written_by_aide(self) -> None:
-        """Databases that AIDE has written: its counts and status, nothing skipped, and the
-        definitions' report at each level."""
+        """Databases that AIDE has written: its counts and status, nothing skipped, and the report
+        of the definitions."""
         self.add("examples by AIDE", [] if folders_of_aide() else ["there is none in " + EXAMPLES])
         for folder in folders_of_aide():
             label = "examples/" + os.path.basename(folder)
@@ -76,14 +62,4 @@ class ExamplesTest(ProgramTest):
             given = (answer.status, counted(answer.output), answer.errors)
             with self.subTest(label):
                 self.assertEqual(given, (status, counts, b""))
-            for options in (
-                "report_level=%s\nreport_grouped=%s" % (level, yes)
-                for level in LEVELS
-                for yes in BOOLS
-            ):
-                words = words_at(folder, options)
-                self.check(
-                    "%s with %s" % (label, options.replace("\n", ", ")),
-                    run(self.program, words),
-                    wanted(words),
-                )
+            self.check(label, answer, wanted(words_for(folder)))
