@@ -16,7 +16,7 @@ OF_QUEUES = "missing queue odd_queue full_queue short".split()
 TESTS = (
     *("test_mail.TextsTest.test_" + name for name in ("texts", "errors")),
     *("test_mail_queue.QueueTest.test_" + name for name in OF_QUEUES),
-    *("test_run.RunTest.test_" + name for name in ("state", "modes", "failed_states")),
+    *("test_run.RunTest.test_" + name for name in ("state", "failed_states")),
     "test_accept.AcceptTest.test_digests",
     "test_accept_partly.AcceptPartlyTest.test_open",
     "test_faults.FaultsTest.test_rooms",

@@ -10,7 +10,7 @@ from typing import Any
 from tests.lib.answer import Answer
 
 from . import test_standings as standings
-from .sandbox import COUNTS, DIFFER, END, NEW, OLD, UMASK, CommandTest, sha256
+from .sandbox import COUNTS, DIFFER, END, NEW, OLD, CommandTest, sha256
 
 KINDS = ["added", "removed", "changed"]
 NAMES = "old_sha256 new_sha256 old new old_written new_written error".split()
@@ -99,14 +99,6 @@ class RunTest(CommandTest):
         self.call(TOOL, "old.db", "old.db.gz", "--state", "state")
         state = self.state()
         self.assertEqual([state[key] for key in ("status", *KINDS)], ["0"] * 4)
-
-    def test_modes(self) -> None:
-        """Everybody may read a state, whatever the umask is; nothing else is made beside it."""
-        os.mkdir(self.path("masked"))
-        for mask in (0o77, 0o22):
-            self.run_tool("--state", "masked/state", before=UMASK % mask)
-            self.assertEqual(os.stat(self.path("masked/state")).st_mode & 0o7777, 0o644)
-        self.assertEqual(os.listdir(self.path("masked")), ["state"], "nothing beside a state")
 
     def test_failed_states(self) -> None:
         """A failure leaves a state with its cause and without counts; bad arguments leave it."""

@@ -55,18 +55,6 @@ COUNTS = {
     "left_out": "0",
     "told_status": "7",
 }
-# What people read of the night, in this order. The order of paths is another one.
-ORDER = [
-    "/usr/local/bin/p",
-    "/etc/passwd",
-    "/etc/ssh/a.conf",
-    "/etc/cron.d/z",
-    "/usr/bin/ls",
-    "/home/anna/.ssh/a",
-    "/opt/z",
-    "/opt/a",
-    "/var/log/a",
-]
 
 
 def sample() -> Host:
@@ -98,25 +86,6 @@ def recorded() -> Host:
     host.new.file(b"/usr/lib/tool", TWO)
     host.packages.append(Package("tool", "2", {b"/usr/lib/tool": TWO}))
     return host
-
-
-def night_of_all() -> Host:
-    """A night with a change for each of them."""
-    host = Host()
-    for path in (b"/etc/passwd", b"/usr/bin/ls", b"/opt/z"):
-        mode = 0o100755 if path == b"/usr/bin/ls" else 0o100644
-        host.old.file(path, ONE, mode)
-        host.new.file(path, TWO, mode)
-    host.new.file(b"/usr/local/bin/p", TWO, 0o104755)
-    host.new.file(b"/home/anna/.ssh/a", TWO, uid=1000)
-    for path in (b"/etc/ssh/a.conf", b"/etc/cron.d/z", b"/opt/a", b"/var/log/a"):
-        host.new.file(path, TWO)
-    return host
-
-
-def named(text: str) -> list[str]:
-    """Those of the paths that the lines of a text name, in their order."""
-    return [path for path in re.findall(r"(/[a-z./]+)", text) if path in ORDER]
 
 
 def prepare(sandbox: CommandTest) -> None:
@@ -177,19 +146,6 @@ class StandingsTest(mail.MailTest):
             self.assertEqual((found["status"], found["told_status"]), ("4", str(status)))
             metrics = self.call(f"{TOOL} status --format prometheus --state state").output
             self.assertIn(b"\naide_compare_status %d\n" % status, metrics)
-
-    def test_unexplained(self) -> None:
-        """A directory with one link more, and devices that were made again, are not the same."""
-        host = silent()
-        links = (b"/srv", {"lcount": 5}, {"lcount": 6})
-        null = (b"/dev/null", {"inode": 4}, {"inode": 9})
-        disk = (b"/dev/sda", {"inode": 5}, {"inode": 9})
-        for mode, (path, old, new) in ((0o40755, links), (0o20666, null), (0o60660, disk)):
-            host.old.directory(path, mode, **old)
-            host.new.directory(path, mode, **new)
-        found = standings_of(host.ask(self)[1], ("standing",))
-        opened = dict.fromkeys((b"/srv", b"/dev/null", b"/dev/sda"), "open")
-        self.assertEqual(found, {b"/srv/same": "same", **opened})
 
     def test_unknown_rights(self) -> None:
         """A mode that nobody asked for may have changed: that is severe. So it is if a text forces
@@ -296,42 +252,14 @@ class StandingsTest(mail.MailTest):
             self.assertTrue(text.isascii() and text.replace("\n", "").isprintable(), text)
             self.assertIn("\\", text)
 
-
-class TerminalTest(CommandTest):
-    """A terminal gets the same bytes as a pipe."""
-
-    def setUp(self) -> None:
-        super().setUp()
+    def test_terminal(self) -> None:
+        """A terminal gets the same bytes as a pipe."""
         prepare(self)
-
-    def on_terminal(self, *words: str) -> tuple[int, bytes]:
-        """The status, and what a terminal gets."""
-        return self.terminal(TOOL, *words, stdin=subprocess.DEVNULL).end()
-
-    def test_same(self) -> None:
+        names = ("o.db", "n.db")
         for words in ((), ("--report",), ("-A", "report_level=minimal")):
-            output = self.call(TOOL, *words, "o.db", "n.db").output
-            status, text = self.on_terminal(*words, "o.db", "n.db")
+            output = self.call(TOOL, *words, *names).output
+            status, text = self.terminal(TOOL, *words, *names, stdin=subprocess.DEVNULL).end()
             self.assertEqual((status, b"\033" in text), (7, False), text)
             self.assertIn(output, text)
-        self.assertEqual(self.on_terminal("-q", "o.db", "n.db"), (7, b""))
-
-    def test_hostile(self) -> None:
-        """No byte of a name is obeyed, also not of one on the command line."""
-        name = b"/usr/%1b[31m%0aOpen,%20severity%20high:%0a"
-        self.write("h\033[2J.db", self.read("n.db").replace(b"/usr/.x%20y", name))
-        status, text = self.on_terminal("o.db", "h\033[2J.db")
-        self.assertEqual((status, b"\033" in text), (7, False), text)
-        self.assertIn(b"h\\033[2J.db", text)
-        self.assertEqual(text.count(b"Open, severity high:\n"), 1, text)
-
-
-class OrderTest(mail.MailTest):
-    """One order in all that people read: a set-ID bit comes before a key, a key before a program, and
-    each of these before what is removed or of others, wherever their paths are."""
-
-    def test_brief_and_mail(self) -> None:
-        host = night_of_all()
-        self.assertEqual(named(host.brief(self)), ORDER)
-        mail.call(self, "host-old.db", "host-new.db")
-        self.assertEqual(named(mail.body(mail.sent(self)).decode()), ORDER)
+        quiet = self.terminal(TOOL, "-q", *names, stdin=subprocess.DEVNULL).end()
+        self.assertEqual(quiet, (7, b""))
