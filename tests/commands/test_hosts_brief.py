@@ -34,7 +34,7 @@ class HostsBriefTest(CommandTest):
             listed = len(re.findall("(?m)^  (?:evil1)? +added +/etc/cron.d/", text))
             rest = sum(int(count.replace(",", "")) for count in left)
             self.assertEqual(listed + rest, FLOOD, text)
-            self.assertIn("on evil1\n", text, "whose are left out")
+            self.assertRegex(text, r"(?m)^  and [\d,]+ more on evil1$", "whose are left out")
 
     def test_shape(self) -> None:
         """At most 80 lines of 80 columns, whatever hosts there are and however long the names
