@@ -120,7 +120,7 @@ def four_hosts(sandbox: CommandTest) -> Hosts:
     def new(text: bytes, number: int) -> bytes:
         return database(
             line(b"/etc/p", b"2", number, b"100600"),
-            line(b"/d", b"x" * number, 5, b"40700"),
+            line(b"/d", b"x" * number, 5, b"40700", 1700000000 + number),
             line(b"/usr/.x", text, number, b"104755", 1700000000 + number),
         )
 
@@ -155,6 +155,21 @@ class HostsReportTest(CommandTest):
             "\n  www4: added 1, removed 1, changed 2: 4 open",
         ):
             self.assertIn(part, said.output_text)
+
+    def test_objects(self) -> None:
+        """What one host has is there with all its values. Of what several have, only those that are
+        the same are, and the others are named."""
+        changes = four_hosts(self).objects()[2]
+        found = {(each["path"], each["hosts"]): each for each in changes}
+        one, several = found["/usr/.x", 1], found["/usr/.x", 3]
+        self.assertEqual(("per_host" in one, "summary" in one), (False, True))
+        self.assertEqual(one["new"]["Mtime"], 1700000004)
+        self.assertEqual(several["per_host"], ["Mtime", "Inode", "Linkcount"])
+        self.assertFalse({*several["per_host"], "summary"} & {*several["new"], *several})
+        self.assertEqual(found["/d", 4]["per_host"], ["Size", "Mtime"])
+        changed = found["/etc/p", 4]
+        self.assertEqual((changed["old_various"], "old" in changed), (["Perm", "SHA256"], False))
+        self.assertEqual(found["/gone", 4]["old"]["Size"], 1)
 
     def test_wrong(self) -> None:
         hosts = Hosts(self)
