@@ -12,7 +12,6 @@ import os
 from tests.lib.answer import shown
 from tests.lib.program_test import SESSIONS, new_seed, slow
 from tests.oracle.attributes import ATTRIBUTES
-from tests.oracle.database import LINE_LIMIT
 from tests.oracle.files import wanted_lines
 from tests.program.lines_program import LinesProgramTest
 from tests.program.random_sessions import try_sessions
@@ -103,22 +102,6 @@ class LinesTest(LinesProgramTest):
             folder.pair(OLD, NEW)
             for label, words in both_jobs(folder):
                 check_outputs(self, label, self.lines_program, words)
-
-    @slow
-    def test_long_lines(self) -> None:
-        """Lines of the greatest length, and one byte longer: paths and values of a megabyte in one
-        line of JSON."""
-        for more, status in ((0, 2), (1, 24)):
-            path = b"/%ff" + b"a" * (LINE_LIMIT - 6 + more) + b" 1"
-            old = b"@@begin_db\n@@db_spec name size\n" + path + b"\n@@end_db\n"
-            self.compared("a path of %d bytes" % (len(path) - 2), old, EMPTY, status)
-            link = (
-                b"/l "
-                + b"\xc3\xb6" * ((LINE_LIMIT - 3) // 2)
-                + b"z" * ((LINE_LIMIT - 3) % 2 + more)
-            )
-            old = b"@@begin_db\n@@db_spec name lname\n" + link + b"\n@@end_db\n"
-            self.compared("a link of %d bytes" % (len(link) - 3), old, EMPTY, status)
 
     @slow
     def test_sizes(self) -> None:

@@ -1,7 +1,7 @@
 """Databases cut at each byte, and lines of just the greatest length."""
 from __future__ import annotations
 
-from tests.lib.answer import Answer
+from tests.lib.answer import Answer, shown
 from tests.lib.program_test import slow
 from tests.oracle.database import LINE_LIMIT
 
@@ -26,7 +26,7 @@ CUTS = [
 
 
 def database(line: bytes, tail: bytes = b"@@end_db\n") -> bytes:
-    return b"@@begin_db\n@@db_spec name size\n" + line + b"\n" + tail
+    return b"@@begin_db\n@@db_spec name lname\n" + line + b"\n" + tail
 
 
 @slow
@@ -42,18 +42,18 @@ class LimitsTest(FolderTest):
             self.check_words("a cut after %d bytes" % length, self.folder.words(), want)
 
     def test_long_lines(self) -> None:
-        """Lines of a database of just the greatest length, and one byte longer."""
-        for more, statuses in ((0, (3, 1, 0)), (1, (24, 24, 24))):
-            entry = b"/" + b"a" * (LINE_LIMIT - 3 + more) + b" 1"
+        """Lines of a database of just the greatest length, and one byte longer: a path and a link of
+        a megabyte, a comment and an end line."""
+        for more, statuses in ((0, (3, 3, 1, 0)), (1, (24, 24, 24, 24))):
+            entry = b"/%ff" + b"a" * (LINE_LIMIT - 6 + more) + b" 1"
+            link = b"/b " + b"\xc3\xb6" * ((LINE_LIMIT - 4) // 2) + b"z" * (1 + more)
             comment = b"#" * (LINE_LIMIT + more)
             end = b"@@end_db" + b" " * (LINE_LIMIT - 8 + more)
-            texts = [database(entry), database(comment), database(b"/a 1", end)]
-            for label, status, text in zip(
-                ("an entry", "a comment", "an end line"), statuses, texts
-            ):
+            texts = [database(entry), database(link), database(comment), database(b"/a 1", end)]
+            for status, text in zip(statuses, texts):
                 self.folder.pair(text, database(b"/a 1"), b"report_level=list_entries\n")
-                label = "%s of %d bytes" % (label, LINE_LIMIT + more)
-                self.check_status(label, self.folder.words(), status)
+                label = f"{shown(text)}, {LINE_LIMIT + more} bytes"
+                self.ends(label, self.folder.words(), status)
         behind = b"@@end_db\n" + b"x" * 3 * LINE_LIMIT
         self.folder.pair(database(b"/a 1", behind), database(b"/a 1"))
-        self.check_status("a long line behind the end", self.folder.words(), 0)
+        self.ends("a long line behind the end", self.folder.words(), 0)
