@@ -8,7 +8,7 @@ from aide_compare.base.files import in_memory
 from aide_compare.base.paths import key_of_path
 from aide_compare.base.words import SIDES, TRUSTED_SIDES
 from aide_compare.lines.change import Fields
-from aide_compare.lines.reader import ENCODE, Outline
+from aide_compare.lines.reader import ENCODE
 
 UNCHANGED = "f................."
 MTIME = 1795600000
@@ -26,12 +26,6 @@ def fields_of(path: str, kind: str = "added", owner: int = 0, **more: Any) -> Fi
 
 def line_of(fields: Fields) -> bytes:
     return ENCODE(fields).encode() + b"\n"
-
-
-def outline_of(fields: Fields) -> Outline:
-    """What a reader says of a line that is not silent."""
-    path = fields["path"].encode()
-    return Outline(fields["kind"], path, None, key_of_path(path), line_of(fields))
 
 
 def stream_of(*changes: Fields) -> int:
