@@ -142,11 +142,9 @@ def random_words(pick: random.Random, path: bytes, bad: float) -> list[bytes]:
     for short, long in ((b"-B", b"--before"), (b"-A", b"--after")):
         if pick.random() < 0.4:
             text = random_text(pick, bad / 4)
-            parts.append(
-                pick.choice(
-                    [[short + b"=" + text], [long + b"=" + text], [short, text], [long, text]]
-                )
-            )
+            ways = [[short, text], [long, text], [short + text]]
+            ways += [[short + b"=" + text], [long + b"=" + text]]
+            parts.append(pick.choice(ways))
     if pick.random() < bad / 4:
         words = pick.choice(BAD_WORDS).encode("latin-1").split(b" ")
         parts.append([path if word == b"PATH" else word for word in words])
