@@ -8,17 +8,20 @@ from __future__ import annotations
 
 import collections
 import glob
+import itertools
 import json
 import os
 
 from tests.commands.viewers.schema import Validator, schema_of_lines
 from tests.lib.answer import Answer, difference, run, shown
 from tests.lib.program_test import SESSIONS, new_seed
+from tests.oracle.database import order_of
 from tests.oracle.files import wanted_lines
 from tests.oracle.lines import LINES_USAGE
 from tests.oracle.session import USAGE_LINE
 from tests.program import cases, line_rows
 from tests.program.random_sessions import make_session_beside, try_sessions
+from tests.program.random_texts.trusted import FAULTY, NAMED
 from tests.program.real_files.test_devices import check_outputs
 from tests.program.real_files.folder import EMPTY, NAMES, Folder, database
 from tests.program.lines_program import LinesProgramTest, faults_of_lines
@@ -90,6 +93,20 @@ class TrustedTest(LinesProgramTest):
                 for fields in entries
             ]
             self.is_accounted(label, four, accounts)
+
+    def test_patterns(self) -> None:
+        """Each pattern of one or two components, or of none, over each path of one or two names."""
+        names = (b"a", b"b", b".a", b"bbc", b"a]", b"*", b"x\xff", b"-")
+        paths = [b"/" + one for one in names]
+        paths += [b"/%s/%s" % pair for pair in itertools.product(names, repeat=2)]
+        entries = b"".join(b"%s 100644\n" % path for path in sorted(paths, key=order_of))
+        text = b"@@begin_db\n@@db_spec name perm\n" + entries + b"@@end_db\n"
+        patterns = [b"/" + one for one in NAMED] + FAULTY
+        patterns += [b"/%s/%s" % pair for pair in itertools.product(NAMED, repeat=2)]
+        with Folder() as folder:
+            words = folder.put([EMPTY, text])
+            for pattern in patterns:
+                self.ends(f"the list {shown(pattern)}", [*words, b"--without", pattern])
 
     def test_words(self) -> None:
         """Each way to name a pair, and to name less or more than one."""

@@ -18,6 +18,7 @@ Row = Dict[bytes, Any]
 Rows = Dict[bytes, Row]
 
 PIECES = b"|a|b|a-b|a.b|ab|B|etc|%41|%zz|#x|@|a b|\xc3\xa9|\xff|\x01|\n|\\|\x7f|0".split(b"|")
+PIECES += [b".a", b"bc", b"]"]
 NUMBERS = [0, 1, -1, 7, 10, 4096, 1234567890, 2**31]
 # The greatest and the least that a field may have, and those of half of the bits.
 NUMBERS += [2**63 - 1, 2**63, 2**64 - 1, -(2**63)]
@@ -78,10 +79,10 @@ def random_value(pick: random.Random, form: Form) -> Any:
 def escaped(pick: random.Random, name: bytes) -> bytes:
     """One of the spellings of a name."""
     often = pick.choice([0, 0, 0.3])
+    form = pick.choice([b"%%%02x", b"%%%02X"])
     must = b" \t\n%"
     return b"".join(
-        b"%%%02x" % byte if byte in must or pick.random() < often else bytes([byte])
-        for byte in name
+        form % byte if byte in must or pick.random() < often else bytes([byte]) for byte in name
     )
 
 

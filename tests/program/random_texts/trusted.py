@@ -28,10 +28,12 @@ OWN = [b"atime", b"mtime", b"ctime", b"inode", b"bcount"]
 OF_DIRECTORIES = [b"size"]
 # Columns without which few entries agree.
 USUAL = [b"perm", b"sha256", b"mtime"]
-MODES = [0o100644, 0o100644, 0o100755, 0o40755, 0o120777, 0o20600]
+MODES = [0o100644, 0o100644, 0o100755, 0o104755, 0o40755, 0o40775, 0o120777, 0o20600]
 # Names in patterns, and lines of a list that have a fault.
-NAMED = [b"a", b"b", b"*", b"**", b"?", b"[a-c]", b"[!a]*", b"\\a", b".*"]
-FAULTY = [b"a", b"/a**", b"/a\\", b"/[a", b"/[b-a]", b"programs() /a", b"programs(a) a"]
+NAMED = [b"a", b"b", b"*", b"**", b"?", b"[a-c]", b"[!a]*", b"\\a", b"\\*", b".*"]
+NAMED += [b"?\xff", b"[]a]", b"[.]a", b"\\.a", b"?a", b".?", b"*b*c", b"[^b-]", b"@*"]
+FAULTY = [b"a", b"/a**", b"/a\\", b"/[a", b"/[!]", b"/[b-a]", b"programs() /a", b"programs(a) a"]
+FAULTY += [b"programs(x)/a", b"programs(a(b) /a"]
 CONTENTS = [bytes([number] * 32) for number in range(3)]
 
 
