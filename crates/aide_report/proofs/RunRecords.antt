@@ -80,6 +80,7 @@ run_stops limits wish n {a} {b} {d} {e} o {fault} most within kept few is stops 
       flushes = refl;
       unsent = unsent_nothing 2 (a.openings Old) (b.openings Old) o.delivered fault;
       agreed = tt;
+      at_same = kept.at_same;
       cause = cause_by limits wish (report_over wish) a.bytes_of sources sink fault
           (caused_as sources ⊥ sink fault (λ none. absurd none) is.caused) (is.first wish) is.right;
       right = is.right;
@@ -143,6 +144,7 @@ module _ (limits : Limits) (wish : Asked) (n m : ℕ) {a b c : Seen} {d e f : De
         flushes = flush.flushes;
         unsent = tt;
         agreed = agreed;
+        at_same = kept.at_same;
         cause = tt;
         right = tt;
         refused = tt;
@@ -200,6 +202,7 @@ module _ (limits : Limits) (wish : Asked) (n m : ℕ) {a b c : Seen} {d e f : De
             (unsent_begun n (a.openings Old) (b.openings Old) (c.openings Old) (s.delivered out) (s.delivered sent) fault
             read.opened.of_old passes.fault.begun);
         agreed = tt;
+        at_same = kept.at_same;
         cause = cause_by limits wish (report_over wish) a.bytes_of sources sink fault is.caused
             (answer_later limits wish a.bytes_of fault is.later) right;
         right = right;

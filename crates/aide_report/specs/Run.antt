@@ -58,6 +58,8 @@ pub record IsRun (limits : Limits) (asked : Asked) (a b : Seen) (d e : DeskView)
       o.delivered p.delivered)
   -- After `Ok` all openings of a side gave bytes of one SHA-256: over openings that differ in it no run ends with `Ok`.
   pub agreed : OnOk result (GiveOneDigest a.bytes_at a.openings b.openings)
+  -- The run does not change which bytes an opening gives.
+  pub at_same : b.bytes_at ≡ a.bytes_at
   -- why a fault comes
   pub cause : IfErr result (λ fault. HasCause fault (Rose a.failures b.failures)
       (Rose o.failures p.failures)

@@ -53,6 +53,7 @@ pub(super) fn run_for_its_answer<S: Sources, W: Sink, A: Allocator + Copy>(
     ensures written { IfErr result (HasWrittenIfAny (W.delivered out.old) (W.delivered out.new)) }
     ensures agreed { OnOk result (GiveOneDigest (S.bytes_at sources.old)
         (S.openings sources.old) (S.openings sources.new)) }
+    ensures at_same { S.bytes_at sources.new ≡ S.bytes_at sources.old }
 {
     run(task, limits, desk, sources, out)
 }
