@@ -8,6 +8,7 @@ use Rattle.aide_conf.specs.Settings.{Configured}
 use Rattle.aide_conf.specs.declared.fault.ConfFault.{ConfFault}
 use Rattle.aide_db.specs.declared.side.Side.{Side}
 use Rattle.aide_db.specs.declared.side.Side.TheVariants.{Old, New}
+use Rattle.aide_db.specs.declared.sources.Sources.{Ghosts as AnySources}
 use Rattle.aide_report.specs.Failures.{Rose}
 use Rattle.aide_merge.specs.Openings.{OpensAtMost}
 use Rattle.aide_merge.specs.Room.{IsNotOfMemory}
@@ -24,6 +25,7 @@ use Rattle.aide_session.specs.Closing.{good_run}
 use Rattle.aide_session.specs.Ends.{Sinks}
 use Rattle.aide_session.specs.Files.{Files, IsLarge}
 use Rattle.aide_session.specs.Says.{Says, usage_by}
+use Rattle.aide_text.specs.declared.sink.Sink.{Ghosts as AnySink}
 use Rattle.aide_words.specs.Job.{JobText}
 use Rattle.aide_session.specs.Lines.{memory_line, unread_line, too_large_line, conf_line, write_line}
 use Rattle.aide_session.specs.code.JobSettings.{HasRead}
@@ -237,12 +239,10 @@ closes_later says files later wanted status s course later_course count later_co
     search (rules, closes_by, rose_later, same_course)
 
 -- the sides were opened as often
-pub same_course : {S W : Type 0} (openings : S → Side → ℕ) (was_given : S → Side → Bool) (flushes : W → ℕ) (is_flushed : W → Bool)
-    (before later after : S) (out_old out_new : W)
-    → openings later ≡ openings before
-    → course_between openings was_given flushes is_flushed later after out_old out_new
-    ≡ course_between openings was_given flushes is_flushed before after out_old out_new
-same_course openings was_given flushes is_flushed before later after out_old out_new same = search rules
+pub same_course : {S R W : Type 0} (s : AnySources S R) (w : AnySink W) (before later after : S) (out_old out_new : W)
+    → s.openings later ≡ s.openings before
+    → course_between s w later after out_old out_new ≡ course_between s w before after out_old out_new
+same_course s w before later after out_old out_new same = search rules
 
 -- the same closing once its lines are passed on
 pub closes_passed : (says : Says) (files : Files) (wanted : Option JobText) (status : ℕ) (c d e f g : Option (List ℕ)) (m n k : ℕ)

@@ -66,6 +66,7 @@ pub means_of : (files : Files) (p : PairSeen) (out : Type 0) (config : List ℕ)
     → MeansOfPair files (named_by config p.asked) p.before.is_reliable (record {
       opened_before = p.before.openings;
       opened_after = p.after.openings;
+      gives_after = p.after.bytes_at;
       given_after = p.after.was_given;
       flushes_before = flushes_before;
       flushes_after = flushes_after;
@@ -105,6 +106,7 @@ module _ (files trusted_files_told : Files) (p q : PairSeen) (out : Type 0) (con
   course_seen r = record {
     opened_before = r.before.openings;
     opened_after = r.after.openings;
+    gives_after = r.after.bytes_at;
     given_after = r.after.was_given;
     flushes_before = flushes_before;
     flushes_after = flushes_after;

@@ -12,7 +12,9 @@ use Rattle.aide_db.specs.Side.{by_side}
 use Rattle.aide_entry.specs.declared.fault_kind.DbFaultKind.TheVariants.{Read}
 use Rattle.aide_db.specs.declared.side.Side.{Side}
 use Rattle.aide_db.specs.declared.side.Side.TheVariants.{Old, New}
+use Rattle.aide_db.specs.declared.sources.Sources.{Ghosts as AnySources}
 use Rattle.aide_report.specs.Agreement.{IsOfOutcome, OpensByOutcome}
+use Rattle.aide_report.specs.Given.{GiveOneDigest}
 use Rattle.aide_merge.specs.FaultStatus.{fault_status}
 use Rattle.aide_merge.specs.Openings.{IsNotGiven, IsRefusedThere, OpensAtMost, OpensExactly}
 use Rattle.aide_merge.specs.Openings.{OpensFirst}
@@ -30,6 +32,7 @@ use Rattle.aide_merge.specs.declared.run_fault.RunFault.TheVariants.{Write}
 use Rattle.aide_session.specs.Answer.{Named, asked_by, limits, need_of}
 use Rattle.aide_session.specs.Ends.{Sinks, Puts}
 use Rattle.aide_session.specs.Files.{Files, IsLarge, is_too_large}
+use Rattle.aide_text.specs.declared.sink.Sink.{Ghosts as AnySink}
 use Rattle.aide_words.specs.Job.{JobText}
 use Rattle.aide_session.specs.Lines.{memory_line, unread_line, too_large_line}
 use Rattle.aide_session.specs.Lines.{conf_line, run_fault_line, outcome_lines, write_line}
@@ -71,26 +74,28 @@ closing_line says named (untold_config s) = write_line
 closing_line says named (bad_run options fault) = run_fault_line named.old_path named.new_path fault
 closing_line says named (good_run options outcome) = outcome_lines outcome
 
--- How often each side was opened and the output was flushed, before and after. Also whether the
--- last opening of a side is known to have succeeded, and whether all of the output is flushed.
+-- How often each side was opened and the output was flushed, before and after. Also which bytes
+-- each opening of a side gives, by its number, whether the last opening of a side is known to have
+-- succeeded, and whether all of the output is flushed.
 pub record Course : Type 0 where
   pub opened_before : Side → ℕ
   pub opened_after : Side → ℕ
+  pub gives_after : Side → ℕ → Option (List ℕ)
   pub given_after : Side → Bool
   pub flushes_before : ℕ
   pub flushes_after : ℕ
   pub is_flushed : Bool
 
 -- the course of a session, by what the devices show
-abbrev pub course_between : {S W : Type 0} → (S → Side → ℕ) → (S → Side → Bool) → (W → ℕ)
-    → (W → Bool) → S → S → W → W → Course
-course_between openings was_given flushes is_flushed site_old site_new out_old out_new = record {
-  opened_before = openings site_old;
-  opened_after = openings site_new;
-  given_after = was_given site_new;
-  flushes_before = flushes out_old;
-  flushes_after = flushes out_new;
-  is_flushed = is_flushed out_new;
+abbrev pub course_between : {S R W : Type 0} → AnySources S R → AnySink W → S → S → W → W → Course
+course_between s w site_old site_new out_old out_new = record {
+  opened_before = s.openings site_old;
+  opened_after = s.openings site_new;
+  gives_after = s.bytes_at site_new;
+  given_after = s.was_given site_new;
+  flushes_before = w.flushes out_old;
+  flushes_after = w.flushes out_new;
+  is_flushed = w.is_flushed out_new;
 }
 
 -- What has been written of an accepted configuration that is only checked: nothing if nothing is said about
@@ -205,12 +210,14 @@ ClosingCause files wanted named (good_run options outcome) site out =
     × AreBothSound files named
 
 -- How often the sides were opened. In a good run each side is opened to be read to its end, to count, and once for each
--- section of entries. The outcome gives this number, and so do both texts if they are known. A run with a fault opens
--- no side more often than this, if both texts are known and sound. In a run that ends with the first fault of a text,
--- no side is opened more than once. In a run that could not open a side, the last opening of that side was refused.
+-- section of entries. The outcome gives this number, and so do both texts if they are known. In such a run all openings
+-- of a side gave bytes of one SHA-256. A run with a fault opens no side more often than this, if both texts are known
+-- and sound. In a run that ends with the first fault of a text, no side is opened more than once. In a run that could
+-- not open a side, the last opening of that side was refused.
 abbrev pub ClosingOpens : Files → Named → Closing → Course → Type 0
 ClosingOpens files named (good_run options outcome) course =
     OpensByOutcome options outcome course.opened_before course.opened_after
+    × GiveOneDigest course.gives_after course.opened_before course.opened_after
     × ((old new : List ℕ) → HasText files named Old old → HasText files named New new
     → OpensExactly course.opened_before course.opened_after
     (openings_over (asked_by options named) old new))

@@ -50,8 +50,7 @@ view_between s w e site_old site_new out_old out_new err_old err_new = record {
   out_after = w.failures out_new;
   sinks = sinks_between w.delivered e.delivered e.failures out_old out_new err_old err_new;
   is_passed_on = e.is_flushed err_new;
-  course = course_between s.openings s.was_given w.flushes w.is_flushed site_old site_new
-      out_old out_new;
+  course = course_between s w site_old site_new out_old out_new;
 }
 
 -- A session with this status. `wanted` is what the arguments ask for, `says` what is written of a configuration that

@@ -51,8 +51,7 @@ pub(super) fn report_on<S: Site, W: Sink, E: Sink>(
         → HasSessionAnswerBy None (S.file_at site.old) (job_of words.now) }
     ensures closes { ClosesBy None (S.file_at site.old) (job_of words.now) result
         (sinks_between W.delivered E.delivered E.failures out.old out.new err.old err.new)
-        (course_between S.openings S.was_given W.flushes W.is_flushed
-        site.old site.new out.old out.new)
+        (course_between S.Sources W.Sink site.old site.new out.old out.new)
         (Rose (S.failures site.old) (S.failures site.new))
         (Rose (W.failures out.old) (W.failures out.new)) }
     ensures lookups { S.lookups site.new ≤ one_more (S.lookups site.old) }

@@ -39,7 +39,7 @@ returns-clause-closes g c = λ wanted config read.
     let asks : AsksToCompare files wanted named = record
     { settings = c.args.settings.now; asks = read; old_is = c.in-Some.ensures.some.0; new_is = c.in-Some.ensures.some.1 } in
     closes_over g.T.Telling.says files (g.S.Sources.file_at c.point-2.new.self) wanted _ _ _ _ _ _ _ _ same
-    (same_course g.S.Sources.openings g.S.Sources.was_given g.W.Sink.flushes g.W.Sink.is_flushed c.args.devices.now.site.now
+    (same_course g.S.Sources g.W.Sink c.args.devices.now.site.now
     c.point-2.new.self c.compare_sides.new.devices.site.now c.args.devices.now.out.now c.compare_sides.new.devices.out.now
     (c.point-2.ensures.keeps.openings ∙ c.point.ensures.keeps.openings))
     (c.point-2.ensures.keeps.failures ∙ c.point.ensures.keeps.failures)

@@ -25,6 +25,7 @@ returns-in-Ok-clause-closes g c = λ wanted for. record {
   output = (c.in-Ok.ensures.consistent, c.in-Ok.ensures.flushed, c.in-Ok.ensures.flushes);
   opens = (
     c.in-Ok.ensures.opens_told,
+    rw c.run.ensures.at_same c.in-Ok.ensures.agreed,
     λ old new has_old has_new.
         rw (for.old_is, for.new_is) (c.in-Ok.ensures.opens old new (for.gives Old old has_old) (for.gives New new has_new)),
   );

@@ -22,8 +22,8 @@ returns-in-Ok-clause-closes g c = λ wanted is.
     let opens = c.job_settings.ensures.opens in
     let ran = c.check.new.devices in
     closes_later g.T.Telling.says _ _ wanted _ _ _ _ _ _ _ _ opens.files
-    (same_course g.S.Sources.openings g.S.Sources.was_given g.W.Sink.flushes g.W.Sink.is_flushed devices.site.now c.job_settings.new.site
-    ran.site.now devices.out.now ran.out.now opens.openings) opens.never_falls
+    (same_course g.S.Sources g.W.Sink devices.site.now c.job_settings.new.site ran.site.now devices.out.now ran.out.now
+    opens.openings) opens.never_falls
     (c.check.ensures.closes wanted _
     (asks_and_reads _ _ wanted (text_of_job c.args.job.now) _ (Ok c.in-Ok.settings) opens.files is c.requires
     (read_for _ _ _ _ c.of.ensures c.in-Ok.ensures.ok)))
