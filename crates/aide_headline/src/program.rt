@@ -1,9 +1,10 @@
-//! What the whole program promises, in two clauses.
+//! What the whole program promises, in three clauses.
 ghost use Rattle.std.specs.Prelude.{◌≡◌, ◌≤◌, ◌+◌, ◌⊎◌, ℕ, List, Result, max};
 ghost use Rattle.aide_conf.specs.Settings.{Configured};
 ghost use Rattle.aide_db.specs.Longest.{longest_line};
 ghost use Rattle.aide_db.specs.declared.fault.DbFault.{DbFault};
 ghost use Rattle.aide_merge.specs.RightAnswer.{Report};
+ghost use Rattle.aide_report.specs.Given.{GiveOneDigest};
 ghost use Rattle.aide_report.specs.Runs.{Runs};
 ghost use Rattle.aide_session.specs.Answer.{Named, answer_of_run, asked_by, limits};
 ghost use Rattle.aide_session.specs.Asks.{Asks};
@@ -17,13 +18,15 @@ use std::alloc::Global;
 
 /// Runs the whole program on this desk, by [`session_on`].
 ///
-/// Both clauses begin with arguments that ask for a comparison of two texts, by a configuration that
-/// is accepted:
+/// The first two clauses begin with arguments that ask for a comparison of two texts, by a configuration
+/// that is accepted:
 ///
 /// - If no device counts a failure, the program ends with the answer over these texts. That is the
 ///   report, the lines on standard error and the status; or no output, the line of the first fault
 ///   and the status 24. Or memory runs out: then there is no output, and the status is 22.
 /// - The desk holds no more than [`compare_databases`](crate::compare_databases) says.
+/// - After a status of at most 7 all openings of a database gave bytes of one SHA-256, whatever each of
+///   them gave.
 pub fn run_program<S: Site, W: Sink, E: Sink>(
     alloc: Global,
     words: &Words,
@@ -47,6 +50,8 @@ pub fn run_program<S: Site, W: Sink, E: Sink>(
         → desk.new.peak ≤ max desk.old.peak
         (longest_line limits old + longest_line limits new
         + max (longest_line limits old) (longest_line limits new)) }
+    ensures agreed { result ≤ 7 → GiveOneDigest (S.bytes_at site.new)
+        (S.openings site.old) (S.openings site.new) }
 {
     session_on(alloc, words, desk, site, out, err)
 }
