@@ -1,6 +1,7 @@
--- The right answer over four texts is that of the run over both pairs.
+-- The right answer over four texts is that of the run over both pairs, and what is asked for has an answer.
 use Rattle.std.specs.Prelude.{ℕ, ◌≡◌, ◌≤◌, List, Result, Ok, Err, Some}
-use Rattle.std.proofs.Common.{ap, refl}
+use Rattle.std.proofs.Common.{ap, arith, refl}
+use Rattle.aide_conf.specs.Settings.{Configured}
 use Rattle.aide_db.specs.Database.{IsSound}
 use Rattle.aide_db.specs.declared.fault.DbFault.{DbFault}
 use Rattle.aide_db.specs.declared.limits.Limits.{Limits}
@@ -16,6 +17,13 @@ use Rattle.aide_line_run.specs.RunEnds.{RunsLines}
 use Rattle.aide_line_run.specs.Listed.{ListRead}
 use Rattle.aide_line_run.specs.declared.pair_fault.PairFault.{PairFault}
 use Rattle.aide_line_run.specs.declared.pair_fault.PairFault.TheVariants.{Compared, Trusted}
+use Rattle.aide_session.specs.Answer.{Named, asked_by, limits}
+use Rattle.aide_session.specs.AsksForLines.{AsksForLines}
+use Rattle.aide_session.specs.Files.{Files}
+use Rattle.aide_session.specs.LineAnswer.{IsLineAnswer, LineAnswer, trusted_of}
+use Rattle.aide_session.proofs.LineExistence.{RunsLines-exists}
+use Rattle.aide_session.proofs.LineLaws.{line_answer_by_what_is_asked}
+use Rattle.aide_words.specs.LineJob.{LineJobText}
 
 module _ (limits : Limits) (wish : Asked) (old new : List ℕ) where
   -- two sound texts have the report for their answer
@@ -56,3 +64,15 @@ right_is_the_answer limits list wish trusted_wish old new trusted_old trusted_ne
   trusted_runs = fault_runs limits trusted_wish trusted_old trusted_new fault is.2.0 is.2.1 is.2.2;
   answer = refl;
 }
+
+-- What is asked for has an answer.
+pub asked_has_an_answer : {files trusted_files : Files} {words : List (List ℕ)} {job : LineJobText} {list : ListRead}
+    {named : Named} {settings : Configured} {old new trusted_old trusted_new : List ℕ}
+    → AsksForLines files trusted_files words job list named settings old new trusted_old trusted_new
+    → (answer : LineAnswer) × IsLineAnswer files trusted_files job named answer
+asked_has_an_answer {files} {trusted_files} {words} {job} {list} {named} {settings} {old} {new} {trusted_old} {trusted_new} asks =
+    let right = RunsLines-exists limits list (asked_by settings.options named) (asked_by settings.options (trusted_of job)) (Some old)
+    (Some new) (Some trusted_old) (Some trusted_new) (omega arith) in (
+      _,
+      line_answer_by_what_is_asked files trusted_files words job list named settings old new trusted_old trusted_new right.0 asks right.1,
+    )

@@ -1,11 +1,9 @@
 use Rattle.std.proofs.Common.{arith}
-use Rattle.std.specs.Prelude.{Some}
 use Rattle.aide_session.specs.Answer.{asked_by, limits}
 use Rattle.aide_session.specs.LineAnswer.{trusted_of}
 use Rattle.aide_session.specs.Trusted.{trusted_at}
-use Rattle.aide_session.proofs.LineExistence.{RunsLines-exists}
 use Rattle.aide_session.proofs.LineLaws.{line_answer_by_what_is_asked}
-use Rattle.aide_headline.proofs.LineLaws.{right_is_the_answer}
+use Rattle.aide_headline.proofs.LineLaws.{asked_has_an_answer, right_is_the_answer}
 use Rattle.aide_headline.proofs.lines_program.run_lines_program.Goals as goal
 
 pub returns-clause-answer : goal.returns-clause-answer
@@ -19,18 +17,11 @@ returns-clause-answer g c job list named settings old new trusted_old trusted_ne
 
 pub returns-clause-bound : goal.returns-clause-bound
 returns-clause-bound g c job list named settings old new trusted_old trusted_new asks =
-    let right = RunsLines-exists limits list (asked_by settings.options named) (asked_by settings.options (trusted_of job)) (Some old)
-    (Some new) (Some trusted_old) (Some trusted_new) (omega arith) in
-    (c.lines_session_on.ensures.session.compares job asks.job_is).bound named _
-    (line_answer_by_what_is_asked (g.S.Sources.file_at c.args.compared.now.site) (trusted_at (g.S.Sources.file_at c.args.trusted.now.site))
-    c.args.words.now job list named settings old new trusted_old trusted_new right.0 asks right.1)
-    old new asks.old_there asks.new_there
+    let answer = asked_has_an_answer asks in
+    (c.lines_session_on.ensures.session.compares job asks.job_is).bound named answer.0 answer.1 old new asks.old_there asks.new_there
 
 pub returns-clause-trusted_bound : goal.returns-clause-trusted_bound
 returns-clause-trusted_bound g c job list named settings old new trusted_old trusted_new asks =
-    let right = RunsLines-exists limits list (asked_by settings.options named) (asked_by settings.options (trusted_of job)) (Some old)
-    (Some new) (Some trusted_old) (Some trusted_new) (omega arith) in
-    (c.lines_session_on.ensures.session.compares job asks.job_is).trusted_bound named _
-    (line_answer_by_what_is_asked (g.S.Sources.file_at c.args.compared.now.site) (trusted_at (g.S.Sources.file_at c.args.trusted.now.site))
-    c.args.words.now job list named settings old new trusted_old trusted_new right.0 asks right.1)
+    let answer = asked_has_an_answer asks in
+    (c.lines_session_on.ensures.session.compares job asks.job_is).trusted_bound named answer.0 answer.1
     trusted_old trusted_new asks.trusted_old_there asks.trusted_new_there
