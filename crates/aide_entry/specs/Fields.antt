@@ -30,7 +30,7 @@ abbrev pub is_name : Column → Bool
 is_name Name = true
 is_name _ = false
 
--- the column of the bits that say which attributes an entry has
+-- the column of the bits that mark the attributes of an entry
 abbrev pub is_bits : Column → Bool
 is_bits Name = false
 is_bits Bits = true

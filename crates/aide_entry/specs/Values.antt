@@ -22,7 +22,7 @@ use Rattle.aide_entry.specs.declared.fault_kind.DbFaultKind.{DbFaultKind}
 use Rattle.aide_entry.specs.declared.fault_kind.DbFaultKind.TheVariants.{BadNumber, BadTime}
 use Rattle.aide_entry.specs.declared.fault_kind.DbFaultKind.TheVariants.{BadDigest}
 
--- the field `0`, which says that there is no value
+-- the field `0`, which means that there is no value
 abbrev pub is_nought : List ℕ → Bool
 is_nought field = bytes_eq field (codes "0")
 

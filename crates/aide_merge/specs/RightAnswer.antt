@@ -13,7 +13,7 @@ use Rattle.aide_merge.specs.declared.run_fault.RunFault.{RunFault}
 use Rattle.aide_merge.specs.declared.run_fault.RunFault.TheVariants.{Open, Database, Changed, Write}
 use Rattle.aide_db.specs.Side.{by_side}
 
--- what a run writes, a report or lines, and the outcome that it returns with it
+-- the report or the lines that a run writes, and the outcome that it returns
 pub record Report : Type 0 where
   pub text : List ℕ
   pub outcome : Outcome

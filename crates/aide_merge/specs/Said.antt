@@ -1,4 +1,4 @@
--- What a report says of a change: its summary string, which attributes it shows, whether it lists the change.
+-- What a report shows of a change: its summary string, its attributes, and whether the change is listed.
 use Rattle.std.specs.Prelude.{ℕ, Bool, true, false, ◌&&◌, List, [], Some, None, is_some, ◌||◌}
 use Rattle.std.specs.List.{list_any}
 use Rattle.aide_attr.specs.Attr.{all_attrs}

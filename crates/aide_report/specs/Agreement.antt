@@ -33,7 +33,7 @@ beginning_by options counts =
 abbrev pub goes_on_by : Options → Counts → Bool
 goes_on_by options counts = goes_on options counts.added counts.removed counts.changed
 
--- the text has been written, and bytes follow it only if more is wanted
+-- the text has been written, and other bytes follow only if `wants_more` is true
 pub record BeginsWith (text : List ℕ) (wants_more : Bool) (old new : Option (List ℕ)) : Type 0 where
   pub rest : List ℕ
   pub bytes : Appends old new (text ++ rest)
@@ -55,7 +55,8 @@ counts_told outcome shown = record {
   shown = shown;
 }
 
--- Each side was opened to be read to its end, to count, and once for each section of a report with this outcome.
+-- Each side was opened once to be read to its end, once to count, and once for each section of a report with this
+-- outcome.
 pub record OpensByOutcome (options : Options) (outcome : Outcome)
     (old new : Side → ℕ) : Type 0 where
   pub shown : ℕ

@@ -1,4 +1,4 @@
--- What a report says about one change: its line in a list, and its details.
+-- The texts of one change in a report: its line in a list, and its details.
 use Rattle.std.specs.Prelude.{ℕ, Bool, if◌then◌else◌, List, [], ◌++◌, Option, Some, None, codes}
 use Rattle.std.specs.List.{flat_map, filter}
 use Rattle.aide_attr.specs.Attr.{all_attrs, detail_name_of}

@@ -66,7 +66,7 @@ parts_of options old_origin new_origin counts entries =
 abbrev pub is_silent : Options → Bool → Bool
 is_silent options differ = options.quiet && not differ
 
--- a report with these counts and changes: all parts, or nothing if it is silent
+-- a report with these counts and changes: all parts, or the empty text if it is silent
 unfoldable pub text_of : Options → Origin → Origin → Counts → List PathChange → List ℕ
 text_of options old_origin new_origin counts entries =
     if is_silent options (differs counts) then []

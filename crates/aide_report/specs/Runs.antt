@@ -19,11 +19,11 @@ use Rattle.aide_merge.specs.declared.run_fault.RunFault.{RunFault}
 use Rattle.aide_merge.specs.declared.run_fault.RunFault.TheVariants.{Database}
 use Rattle.aide_merge.specs.RightAnswer.{Report, RunsBy}
 
--- what a report says about a database itself: its path, and the SHA-256 of its text
+-- what a report shows of a database itself: its path, and the SHA-256 of its text
 abbrev pub origin_of : List ℕ → List ℕ → Origin
 origin_of path text = record { path = path; digest = sha256 text }
 
--- the report over two sound texts, and the outcome that goes with it
+-- the report over two sound texts, and its outcome
 unfoldable pub report_over : Asked → List ℕ → List ℕ → Report
 report_over asked old new = record {
   text = report_of asked.options (origin_of asked.old_path old) (origin_of asked.new_path new)

@@ -1,4 +1,4 @@
--- The sections of entries: which there are, what each says about a change, and its text.
+-- The sections of entries: which ones a report contains, and their texts.
 use Rattle.std.specs.Prelude.{ℕ, ◌==◌, ◌||◌, ◌&&◌, not, Bool, false, if◌then◌else◌, List, [], ◌++◌}
 use Rattle.std.specs.Prelude.{Some, None}
 use Rattle.std.specs.List.{flat_map, filter}
@@ -39,7 +39,7 @@ lists (Listed added removed changed) (path, (Some old, None)) = removed
 lists (Listed added removed changed) (path, (Some old, Some new)) = changed
 lists _ _ = false
 
--- what a section with these contents says about a change in it: a line, or details
+-- the text of a change in a section with these contents: a line, or details
 abbrev pub entry_text : Options → Contents → PathChange → List ℕ
 entry_text options (Listed added removed changed) entry = list_line options entry
 entry_text options Detailed entry = entry_details options entry
@@ -49,12 +49,12 @@ unfoldable pub one_text : Options → Contents → PathChange → List ℕ
 one_text options contents entry =
     if is_in options contents entry then entry_text options contents entry else []
 
--- what a section with these contents says about all changes in it, in their order
+-- the texts of all changes in a section with these contents, in their order
 unfoldable pub entries_text : Options → Contents → List PathChange → List ℕ
 entries_text options contents entries =
     flat_map (entry_text options contents) (filter (is_in options contents) entries)
 
--- the title lines of a section, and what it says about all changes
+-- the title lines of a section, and the texts of all changes in it
 unfoldable pub section_text : Options → List PathChange → Section → List ℕ
 section_text options entries section =
     section_head section ++ entries_text options (contents_of section) entries

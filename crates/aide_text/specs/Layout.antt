@@ -57,7 +57,7 @@ pair_body a b = left_part a ++ ended b
 unfoldable pub pair_line : List ℕ → List ℕ → List ℕ → List ℕ
 pair_line head a b = head ++ pair_body a b
 
--- that many first lines of two texts; the first line has this head
+-- the first lines of two texts, as many as this; the first of them begins with this head
 unfoldable pub pair_lines : List ℕ → ℕ → List ℕ → List ℕ → List ℕ
 pair_lines head zero a b = []
 pair_lines head (suc n) a b = pair_line head (take 32 a) (take 32 b)
@@ -85,7 +85,7 @@ side_by_side name a b = pair_lines (heading name) (line_count a b) a b
 unfoldable pub single_line : List ℕ → List ℕ → List ℕ
 single_line head a = head ++ ended a
 
--- that many first lines of a text; the first line has this head
+-- the first lines of a text, as many as this; the first of them begins with this head
 unfoldable pub single_lines : List ℕ → ℕ → List ℕ → List ℕ
 single_lines head zero a = []
 single_lines head (suc n) a = single_line head (take 32 a) ++ single_lines margin n (drop 32 a)

@@ -16,7 +16,7 @@ databases_differ added removed changed =
 abbrev pub differs : Counts → Bool
 differs counts = databases_differ counts.added counts.removed counts.changed
 
--- a part of the report, if it is wanted, and otherwise the empty text
+-- a part of the report if `wanted` is true, otherwise the empty text
 abbrev pub when : Bool → List ℕ → List ℕ
 when wanted text = if wanted then text else []
 

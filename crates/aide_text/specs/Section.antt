@@ -11,9 +11,9 @@ use Rattle.aide_text.specs.declared.section.Section.TheVariants.{AddedEntries, R
 use Rattle.aide_text.specs.declared.section.Section.TheVariants.{ChangedEntries, AllEntries}
 use Rattle.aide_text.specs.declared.section.Section.TheVariants.{Details}
 
--- A row of the table: the title; the first level whose reports have the section; whether lists have
--- to be grouped or must not be, and `None` for both; and what the section has. A list has the
--- added, the removed and the changed entries, each if it says so.
+-- A row of the table: the title; the first level whose reports contain the section; whether lists
+-- have to be grouped or must not be, or `None` if both are allowed; and the contents. Three flags
+-- decide whether a list contains the added, the removed and the changed entries.
 pub record Row : Type 0 where
   pub title : List ℕ
   pub level : Level
@@ -52,7 +52,7 @@ all_sections =
 abbrev pub title_of : Section → List ℕ
 title_of section = (row_of section).title
 
--- the first level whose reports have the section
+-- the first level whose reports contain the section
 abbrev pub level_of : Section → Level
 level_of section = (row_of section).level
 
@@ -60,11 +60,11 @@ level_of section = (row_of section).level
 abbrev pub grouped_of : Section → Option Bool
 grouped_of section = (row_of section).grouped
 
--- what the section has
+-- the contents of a section
 abbrev pub contents_of : Section → Contents
 contents_of section = (row_of section).contents
 
--- whether lists that are grouped or not are as the section wants them
+-- whether the section may be in a report whose lists are grouped, or are not
 abbrev pub fits : Option Bool → Bool → Bool
 fits None grouped = true
 fits (Some wanted) grouped = if wanted then grouped else not grouped
