@@ -17,8 +17,9 @@ abbrev pub is_as_old : Pair → Bool
 is_as_old (Some old, Some new) = agree old new
 is_as_old _ = false
 
--- The same happened at the path of a trusted machine: it has an entry that agrees with the new one, and had none or one
--- that does not agree with it; or it had an entry that agrees with the old one, and has none any more.
+-- The same happened at this path of a trusted machine. If there is a new entry, the machine's new entry agrees with it,
+-- and the machine's old entry is missing or does not agree with the machine's new one. If the entry was removed, the
+-- machine removed one that agrees with it.
 abbrev pub is_as_trusted : (found trusted : Pair) → Bool
 is_as_trusted (old, Some new) (trusted_old, Some trusted_new) =
     agree new trusted_new && not (is_as_old (trusted_old, Some trusted_new))

@@ -14,8 +14,8 @@ use Rattle.aide_agreement.specs.Own.{is_digest, is_directory, is_own, is_strong}
 abbrev pub is_alone : Sides → Attr → Bool
 is_alone s a = is_added s a || is_removed s a
 
--- The entries stray from each other at an attribute that no machine has of its own: both have it with different values,
--- or only one of them has it. A digest that only one of them has does not matter.
+-- The entries stray from each other at an attribute that no machine has of its own. Either both have it, with different
+-- values, or only one has it and it is not a digest.
 abbrev pub strays : (directories : Bool) → Sides → Attr → Bool
 strays directories s a =
     (is_changed s a || (is_alone s a && not (is_digest a))) && not (is_own directories a)
@@ -32,8 +32,9 @@ has_target value = elim (link_in value) [
   | None ↦ false
 ]
 
--- What entries of a type need to have the same content: regular files a common digest of at least 256 bits, links a
--- target. No entry says which device a device is, so devices never have the same content. Others have no content.
+-- Entries of this type have the same content. Regular files need a common digest of at least 256 bits, and links need a
+-- target. Devices never have the same content, because an entry does not contain their numbers. Entries of other types
+-- have no content.
 abbrev pub shares_content : FileType → Sides → (first_link second_link : Option Value) → Bool
 shares_content File s first_link second_link = list_any (is_shared s) all_attrs
 shares_content Link s first_link second_link = has_target first_link && has_target second_link
@@ -48,7 +49,7 @@ agree_by (Some kind) first second =
     shares_content kind (sides_between first second) (first Lname) (second Lname)
     && not (list_any (strays (is_directory kind) (sides_between first second)) all_attrs)
 
--- Two entries agree: they have one type, the same content and, but for what each machine has of its own and
--- digests that only one of them has, the same attributes with the same values.
+-- Two entries agree: they have the same type, the same content, and the same attributes with the same values. What each
+-- machine has of its own does not count, and a digest counts only if both have it.
 unfoldable pub agree : (first second : Attributes) → Bool
 agree first second = agree_by (type_in (first Ftype)) first second

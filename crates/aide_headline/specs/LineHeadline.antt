@@ -12,7 +12,7 @@ use Rattle.aide_line_run.specs.Listed.{ListRead}
 use Rattle.aide_line_run.specs.declared.pair_fault.PairFault.{PairFault}
 use Rattle.aide_line_run.specs.declared.pair_fault.PairFault.TheVariants.{Compared, Trusted}
 
--- the fault is the first one of two texts: that of the old text comes first
+-- the fault is the first one of two texts: a fault of the old text comes before one of the new text
 abbrev pub IsFirstOfPair : Limits → (old new : List ℕ) → DbFault → Type 0
 IsFirstOfPair limits old new fault = IsFirstFaultOf limits Old old fault
     ⊎ (IsSound limits old × IsFirstFaultOf limits New new fault)

@@ -1,4 +1,4 @@
--- What the lines of changes say about four databases, path by path.
+-- What the lines of changes mean about four databases, path by path.
 use Rattle.std.specs.Prelude.{◌≡◌, ◌⊎◌, ℕ, Bool, true, false, List, [], ◌∷◌, ◌++◌, Option, Some}
 use Rattle.std.specs.Prelude.{None, ⊤, codes}
 use Rattle.std.specs.FinMap.{get}

@@ -23,7 +23,7 @@ change_line options account change =
     entry_line change.0 (letters_of options.ignore change.1) (account change)
     (shows_at (widest options) change.1) change.1
 
--- the same, and nothing for a change that the report lists nowhere
+-- the line of a change, or the empty text if the report does not list the change
 unfoldable pub listed_line : Options → Accounts → PathChange → List ℕ
 listed_line options account change =
     if is_in options all_listed change then change_line options account change else []

@@ -1,4 +1,4 @@
--- The numbers of the last line, over two maps, and what a run returns that has counted them.
+-- The numbers in the last line, over two maps, and the outcome of a run that has counted them.
 use Rattle.std.specs.Prelude.{ℕ, ◌+◌, ◌&&◌, Bool, true, false, Option, Some, None, List, length}
 use Rattle.std.specs.List.{filter}
 use Rattle.aide_line_text.specs.declared.account.Account.{Account}
@@ -13,32 +13,32 @@ use Rattle.aide_merge.specs.Outcomes.{counts_of, status_of}
 use Rattle.aide_merge.specs.Said.{all_listed, is_in}
 use Rattle.aide_merge.specs.declared.outcome.Outcome.{Outcome}
 
--- whether it is the old entry that accounts for a change
+-- whether the old entry accounts for a change
 abbrev pub is_old : Option Account → Bool
 is_old (Some Old) = true
 is_old _ = false
 
--- whether it is a trusted machine
+-- whether a trusted machine accounts for a change
 abbrev pub is_trusted : Option Account → Bool
 is_trusted (Some Trusted) = true
 is_trusted _ = false
 
--- whether a list leaves it out
+-- whether a list leaves a change out
 abbrev pub is_left_out : Option Account → Bool
 is_left_out (Some (LeftOut number)) = true
 is_left_out _ = false
 
--- whether nothing accounts for it
+-- whether a change has no account
 abbrev pub is_other : Option Account → Bool
 is_other None = true
 is_other (Some account) = false
 
--- whether a change has a line, and what accounts for it passes a test
+-- whether a change has a line, and its account passes a test
 abbrev pub is_line_with : Options → Accounts → (Option Account → Bool) → PathChange → Bool
 is_line_with options account passes change =
     is_in options all_listed change && passes (account change)
 
--- how many lines have a change for which this accounts
+-- how many lines have an account that passes a test
 abbrev pub lines_with : Options → Accounts → (Option Account → Bool) → List PathChange → ℕ
 lines_with options account passes changes =
     length (filter (is_line_with options account passes) changes)
@@ -69,7 +69,7 @@ account_count counts =
 abbrev pub status_by : LineCounts → ℕ
 status_by counts = status_of counts.added counts.removed counts.changed
 
--- what a run returns that has counted these lines, with the skipped columns of each side
+-- the outcome of a run that has counted these lines, with the skipped columns of each side
 abbrev pub line_outcome : LineCounts → (skipped_old skipped_new : ℕ) → Outcome
 line_outcome counts skipped_old skipped_new = record {
   added = counts.added;

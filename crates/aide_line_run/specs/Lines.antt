@@ -24,11 +24,11 @@ use Rattle.aide_text.specs.Sent.{SendsPart}
 use Rattle.aide_line_run.specs.Listed.{Leaves, ListRead, account_by, leaves_between}
 use Rattle.aide_line_run.specs.Sought.{Accounted, accounted_lines, changes_of, sought_by}
 
--- what the last line says about a database: the SHA-256 of its text, and the columns that were skipped
+-- the facts about a text that the last line contains: its SHA-256, and the columns that were skipped
 abbrev pub read_of : List ℕ → ReadFacts
 read_of text = record { digest = sha256 text; skipped = skipped_in (columns_of_text text) }
 
--- what the last line says about all four databases
+-- the facts about all four databases that the last line contains
 pub record PairFacts : Type 0 where
   pub of_old : ReadFacts
   pub of_new : ReadFacts
@@ -51,15 +51,15 @@ abbrev pub last_line : ListRead → PairFacts → LineCounts → List ℕ
 last_line list facts counts = closing_line facts.of_old facts.of_new
     facts.of_trusted_old facts.of_trusted_new list.digest counts (status_by counts)
 
--- all lines, with these facts, counts and changes: the first line, a line for each added, removed or changed entry,
--- which says what accounts for the change, and the last line
+-- All lines, with these facts, counts and changes: the first line, a line for each added, removed or changed entry, and
+-- the last line. The line of an entry names the account of its change, if there is one.
 unfoldable pub lines_framed : ListRead → (asked trusted : Asked) → PairFacts → Accounts
     → LineCounts → List PathChange → List ℕ
 lines_framed list asked trusted facts account counts changes =
     (first_line asked trusted ++ change_lines asked.options account changes)
     ++ last_line list facts counts
 
--- what the last line says about four texts
+-- the facts about four texts that the last line contains
 abbrev pub facts_of_texts : (old new trusted_old trusted_new : List ℕ) → PairFacts
 facts_of_texts old new trusted_old trusted_new = record {
   of_old = read_of old;
@@ -81,8 +81,7 @@ by_texts list old new trusted_old trusted_new =
     by_trusted (leaves_between list old new) (database_of trusted_old)
     (database_of trusted_new)
 
--- The lines over four sound texts, and the outcome that goes with them, in which the trusted texts and the list have no
--- part.
+-- The lines over four sound texts, and their outcome. The outcome does not depend on the trusted texts or on the list.
 unfoldable pub lines_of_texts : ListRead → (asked trusted : Asked)
     → (old new trusted_old trusted_new : List ℕ)
     → Report
@@ -92,8 +91,9 @@ lines_of_texts list asked trusted old new trusted_old trusted_new = record {
   outcome = (report_over asked old new).outcome;
 }
 
--- A beginning of the first line and of the lines of these changes has been written, each with what accounts for it. If
--- the changes are in path order, that is what the changes of the trusted pair have at its path, or what is left out.
+-- A beginning of the first line and the lines of these changes has been written, with an account or none for each
+-- change. If the changes are in path order, the accounts come from the changes of the trusted pair at their paths, or
+-- from the list.
 pub record BeginsLines (leaves : Leaves) (asked trusted : Asked)
     (changes trusted_changes : List PathChange)
     (before after : Option (List ℕ)) : Type 0 where

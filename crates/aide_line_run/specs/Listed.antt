@@ -1,4 +1,4 @@
--- What accounts for a change with a trusted pair and a list that says what is left out.
+-- What accounts for a change, with a trusted pair and a list of what is left out.
 use Rattle.std.specs.Prelude.{ℕ, List, Option, Some, None, option_map}
 use Rattle.aide_agreement.specs.declared.account.SameAs.{SameAs}
 use Rattle.aide_attr.specs.declared.attr.Attr.TheVariants.{Caps}
@@ -13,7 +13,7 @@ use Rattle.aide_line_text.specs.declared.account.Account.TheVariants.{LeftOut}
 use Rattle.aide_patterns.specs.Line.{RuleText}
 use Rattle.aide_merge.specs.Said.{PathChange}
 
--- a list that says what is left out: its rules, and the SHA-256 of its text
+-- a list of what is left out: its rules, and the SHA-256 of its text
 pub record ListRead : Type 0 where
   pub rules : List RuleText
   pub digest : List ℕ
@@ -22,7 +22,7 @@ pub record ListRead : Type 0 where
 abbrev pub measures_by : (old new : List Column) → Measures
 measures_by old new = record { of_old = has_column Caps old; of_new = has_column Caps new }
 
--- the same, by their texts
+-- which of two databases have the column of capabilities, by their texts
 abbrev pub measures_between : (old new : List ℕ) → Measures
 measures_between old new = measures_by (columns_of_text old) (columns_of_text new)
 
@@ -38,7 +38,7 @@ left_by list measures change = left_out list.rules measures change.0 change.1
 abbrev pub leaves_between : ListRead → (old new : List ℕ) → Leaves
 leaves_between list old new = left_by list (measures_between old new)
 
--- what accounts for a change: an entry if one does, and else a line of the list
+-- what accounts for a change: an entry if one does, otherwise a line of the list
 abbrev pub account_by : Option SameAs → (line : Option ℕ) → Option Account
 account_by (Some same) line = account_as (Some same)
 account_by None line = option_map LeftOut line

@@ -1,4 +1,4 @@
--- What the trusted pair has at the path of a change, by its own changes that are still to come.
+-- What accounts for a change, by the changes of the trusted pair that are still to come.
 use Rattle.std.specs.Prelude.{ℕ, if◌then◌else◌, List, [], ◌∷◌, map, Option, None}
 use Rattle.std.specs.List.{flat_map}
 use Rattle.std.specs.Ordering.{is_eq, is_lt}
@@ -10,12 +10,12 @@ use Rattle.aide_line_run.specs.ChangeLines.{Accounts, listed_line}
 use Rattle.aide_merge.specs.Said.{PathChange}
 use Rattle.aide_line_run.specs.Listed.{Leaves, account_by}
 
--- the changes from the first path on that is not before this one
+-- the changes without those at the beginning whose paths come before this path
 abbrev pub seek : List ℕ → List PathChange → List PathChange
 seek path [] = []
 seek path (c ∷ more) = if is_lt (path_cmp c.0 path) then seek path more else c ∷ more
 
--- what is there at the path, if it is the first one
+-- the entries of the first change if it is at the path, otherwise none
 abbrev pub found_at : List ℕ → List PathChange → Pair
 found_at path [] = (None, None)
 found_at path (c ∷ more) = if is_eq (path_cmp c.0 path) then c.1 else (None, None)
@@ -38,7 +38,7 @@ all_sought leaves changes trusted =
 abbrev pub changes_of : List Accounted → List PathChange
 changes_of accounted = map (λ each. each.0) accounted
 
--- the line of a change, by what accounts for it, and nothing for a change that the report lists nowhere
+-- the line of a change with its account, or the empty text if the report does not list the change
 abbrev pub accounted_line : Options → Accounted → List ℕ
 accounted_line options each = listed_line options (λ any. each.1) each.0
 

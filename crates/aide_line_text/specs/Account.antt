@@ -1,4 +1,4 @@
--- What accounts for a change, as a line says it.
+-- What accounts for a change, as a line names it.
 use Rattle.std.specs.Prelude.{Option, Some, None}
 use Rattle.aide_agreement.specs.declared.account.SameAs.{SameAs}
 use Rattle.aide_agreement.specs.declared.account.SameAs.TheVariants as same

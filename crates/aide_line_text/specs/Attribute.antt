@@ -15,7 +15,7 @@ use Rattle.aide_json.specs.Number.{json_integer}
 use Rattle.aide_json.specs.Object.{object}
 use Rattle.aide_text.specs.ValueText.{option_text, type_text, mode_text}
 
--- a type of file by its word, as a report has it
+-- the word for a type of file, as in a report
 abbrev pub type_string : FileType → List ℕ
 type_string kind = quoted (type_text kind)
 
@@ -24,9 +24,9 @@ abbrev pub link_member : List ℕ → Option (List ℕ) → List ℕ
 link_member name None = member name (codes "null")
 link_member name (Some target) = text_member name target
 
--- The member of a value of this form, or the empty text if there is no value: a mode by four octal
--- digits, a number and a time by all digits, a digest in base 16, a link name and a field that is
--- not looked into as a text.
+-- The member of a value of this form, or the empty text if there is no value. A mode has four octal
+-- digits, a number and a time have all their digits, and a digest is in base 16. A link name and a
+-- value without a meaning of its own are texts.
 abbrev pub value_member : List ℕ → Form → Option Value → List ℕ
 value_member name Kind value = option_text (λ kind. member name (type_string kind)) (type_in value)
 value_member name Mode value =

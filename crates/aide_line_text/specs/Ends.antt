@@ -1,4 +1,4 @@
--- What the last line says about both databases at once: numbers, and columns that were skipped.
+-- What the last line contains about both databases: numbers, and columns that were skipped.
 use Rattle.std.specs.Prelude.{ℕ, zero, suc, ◌+◌, ◌-◌, ◌==◌, Bool, List, [], ◌∷◌}
 use Rattle.std.specs.Prelude.{map, codes}
 use Rattle.std.specs.Int.{bit_at}
@@ -33,8 +33,7 @@ is_skipped columns column = bit_at columns (column - 1) == 1
 unfoldable pub skipped_array : ℕ → List ℕ
 skipped_array columns = array (map json_count (filter (is_skipped columns) (numbers 1 64)))
 
--- for how many lines the old entries account, for how many a trusted machine, for how many a list, and for how many
--- nothing
+-- the numbers of lines by their account: the old entry, a trusted machine, a list, or none of these
 abbrev pub account_members : LineCounts → List (List ℕ)
 account_members counts =
     count_member (codes "same_as_old") counts.same_as_old

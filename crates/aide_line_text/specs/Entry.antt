@@ -35,13 +35,13 @@ abbrev pub type_members : Option FileType → List (List ℕ)
 type_members None = []
 type_members (Some kind) = member (codes "type") (type_string kind) ∷ []
 
--- the member that says what accounts for a change: an entry, or a line of a list
+-- the member that names what accounts for a change: an entry, or a line of a list
 abbrev pub account_member : Account → List ℕ
 account_member Old = member (codes "same_as") (quoted (codes "old"))
 account_member Trusted = member (codes "same_as") (quoted (codes "trusted"))
 account_member (LeftOut number) = count_member (codes "left_out") number
 
--- the same, if anything does
+-- the member that names what accounts for a change, if it has an account
 abbrev pub account_members : Option Account → List (List ℕ)
 account_members None = []
 account_members (Some account) = account_member account ∷ []

@@ -1,4 +1,4 @@
--- The first and the last line of lines that are written while the databases are read.
+-- The first and the last of the lines that are written while the databases are read.
 use Rattle.std.specs.Prelude.{ℕ, List, [], ◌∷◌, ◌++◌, codes}
 use Rattle.aide_json.specs.Json.{hex_string}
 use Rattle.aide_json.specs.Member.{member, text_member}
@@ -26,13 +26,13 @@ opening_line old_path new_path trusted_old trusted_new =
     ∷ text_member (codes "trusted_old") trusted_old
     ∷ text_member (codes "trusted_new") trusted_new ∷ [])
 
--- the SHA-256 of the list that says what is left out
+-- the SHA-256 of the list of what is left out
 abbrev pub list_member : List ℕ → List ℕ
 list_member digest =
     member (codes "list") (object (member (codes "sha256") (hex_string digest) ∷ []))
 
--- the last line, without which the lines were cut: what was read of all four databases, the numbers of entries and of
--- what accounts for them, the list, and the exit status
+-- The last line: what was read of all four databases, the numbers of entries and of their accounts, the list, and the
+-- exit status. If it is missing, the lines were cut.
 unfoldable pub closing_line : (old new trusted_old trusted_new : ReadFacts)
     → (list : List ℕ) → LineCounts → ℕ
     → List ℕ

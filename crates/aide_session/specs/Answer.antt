@@ -1,5 +1,5 @@
--- The answer of a session: its output, its error lines and its status. What the arguments ask for and
--- the files determine it, and what is written of a configuration that is only checked.
+-- The answer of a session: its output, its error lines and its status. The arguments and the files determine it, and
+-- for a configuration that is only checked, the text to write about it.
 use Rattle.std.specs.Prelude.{◌≡◌, ◌⊎◌, ℕ, ◌^◌, Bool, true, false, List, [], Ok, Err, Result}
 use Rattle.std.specs.Prelude.{Option, Some, None}
 use Rattle.aide_conf.specs.Settings.{Configured}

@@ -9,11 +9,10 @@ use Rattle.aide_session.specs.GivenList.{IsListOf}
 use Rattle.aide_line_run.specs.Listed.{ListRead}
 use Rattle.aide_words.specs.LineJob.{LineJobText, line_job_of}
 
--- The arguments ask for this job, and this is read of the list that they give: its rules, and the
--- digest of its text. The configuration is at the path that they name, and is accepted with these
--- settings. At each of the two paths that it names, and at each of those of the trusted pair, there
--- is a text. `trusted_files` is `trusted_at` of what the second site shows, so that the empty database
--- is at an empty path.
+-- The arguments ask for this job, and their list was read with these rules and this digest. The configuration is at the
+-- path that they name, and is accepted with these settings. Each of the two paths that the configuration names, and
+-- each of the two paths of the trusted pair, leads to a text. `trusted_files` is `trusted_at` of what the second site
+-- shows: at an empty path it has the empty database.
 pub record AsksForLines (files trusted_files : Files) (words : List (List ℕ)) (job : LineJobText)
     (list : ListRead) (named : Named) (settings : Configured)
     (old new trusted_old trusted_new : List ℕ) : Type 0 where

@@ -1,7 +1,8 @@
 -- What is known of files by their paths.
 use Rattle.std.specs.Prelude.{◌≡◌, ℕ, List, Option, Some, None, true, Bool, nat_lt, length}
 
--- what is known of the file at each path: nothing, or that there is none, or its bytes
+-- what is known of the file at each path: its bytes, or that the file is missing (`Some None`);
+-- `None` if neither is known
 abbrev pub Files : Type 0
 Files = List ℕ → Option (Option (List ℕ))
 

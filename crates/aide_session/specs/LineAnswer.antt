@@ -36,14 +36,14 @@ trusted_of job = record {
   new_path = job.trusted_new;
 }
 
--- What is written: all of a text. Or no more than a beginning of the first line and of the lines of some changes, each
--- with what accounts for it by those of a trusted pair or by what a list leaves out.
+-- The output: a complete text, or a beginning of the first line and the lines of some changes. The accounts come from
+-- the changes of a trusted pair, or from a list.
 pub data LineOutput : Type 0 where
   all_lines : List ℕ → LineOutput
   start_of_lines : Leaves → (asked trusted : Asked) → (changes trusted_changes : List PathChange)
       → LineOutput
 
--- nothing is written
+-- the empty output
 abbrev pub no_line : LineOutput
 no_line = all_lines []
 
@@ -70,8 +70,8 @@ pub record LineAnswer : Type 0 where
 abbrev pub refused_lines : List ℕ → ℕ → LineAnswer
 refused_lines lines status = record { output = no_line; errors = lines; status = status }
 
--- What has been written when a fault is the answer, by what is at the four paths: a beginning of what comes before the
--- last line, and nothing if a file is not there.
+-- The output if the answer is a fault, by what is at the four paths. It is a beginning of the lines that precede the
+-- last one. If a file is missing, it is empty.
 abbrev pub lines_at_fault : ListRead → (asked trusted : Asked)
     → (old new trusted_old trusted_new : Option (List ℕ)) → LineOutput
 lines_at_fault list asked trusted (Some old) (Some new) (Some trusted_old) (Some trusted_new) =
@@ -79,8 +79,8 @@ lines_at_fault list asked trusted (Some old) (Some new) (Some trusted_old) (Some
     (changes_between old new) (changes_between trusted_old trusted_new)
 lines_at_fault list asked trusted _ _ _ _ = no_line
 
--- The answer of a comparison with a trusted pair, by the paths of both: what is written, or the
--- line and the status of the fault. What has been written at a fault is given.
+-- The answer of a comparison with a trusted pair, by the paths of both pairs: what is written, or
+-- the line and the status of the fault. At a fault the output is `at_fault`.
 abbrev pub line_answer : (at_fault : LineOutput) → (named trusted : Named)
     → Result Report PairFault → LineAnswer
 line_answer at_fault named trusted (Ok report) = record {

@@ -92,7 +92,7 @@ PairFailureCause (of_compared failure) site trusted_site out = FailureCause fail
 PairFailureCause (trusted_unopened side) site trusted_site out = trusted_site
 PairFailureCause (trusted_unread fault) site trusted_site out = (fault.kind ≡ Read) × trusted_site
 
--- the session ends with the whole answer
+-- the session ends with the complete answer
 pub record WholeLines (a : LineAnswer) (status : ℕ) (sinks : Sinks) : Type 0 where
   pub status_is : status ≡ a.status
   pub output : HasWritten a.output sinks.out_old sinks.out_new

@@ -6,8 +6,8 @@ use Rattle.aide_session.specs.Files.{Files}
 unfoldable pub empty_database : List ℕ
 empty_database = codes "@@begin_db\n@@db_spec name attr\n@@end_db\n"
 
--- what is known of the files at the paths of a trusted pair: the empty path names the empty
--- database, and every other path the file there
+-- what is known of the files of a trusted pair: the empty path leads to the empty database, and
+-- every other path to the file at this path
 unfoldable pub trusted_at : Files → Files
 trusted_at files [] = Some (Some empty_database)
 trusted_at files (byte ∷ path) = files (byte ∷ path)

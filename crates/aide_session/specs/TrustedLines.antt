@@ -57,7 +57,7 @@ pair_fault_line old_path new_path trusted_old trusted_new (Compared fault) =
 pair_fault_line old_path new_path trusted_old trusted_new (Trusted fault) =
     trusted_fault_line trusted_old trusted_new fault
 
--- the status of such a fault: that of a run over only the pair
+-- the status of such a fault: the same as that of a run over only this pair
 abbrev pub pair_fault_status : PairFault → ℕ
 pair_fault_status (Compared fault) = fault_status fault
 pair_fault_status (Trusted fault) = fault_status fault

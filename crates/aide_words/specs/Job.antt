@@ -42,7 +42,7 @@ aide_command = with_rule (with_rule (with_rule (with_rule (with_rule (new_app (c
 abbrev pub flag_of : Text → List Row → Bool
 flag_of id rows = option_map_or (bytes_eq (codes "true")) (first_of id rows) false
 
--- what the program is to do
+-- the job of the program
 pub record JobText : Type 0 where
   pub compare : Bool
   pub config : Text

@@ -32,7 +32,7 @@ unfoldable pub line_command : App
 line_command = with_list
     (with_trusted (with_texts (with_compare (new_app (codes "aide_lines")))))
 
--- what the program is to do
+-- the job of the program
 pub record LineJobText : Type 0 where
   pub config : Text
   pub before : Text
