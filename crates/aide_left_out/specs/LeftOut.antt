@@ -16,12 +16,13 @@ use Rattle.aide_left_out.specs.declared.change.Measures.{Measures}
 abbrev pub longest_path : ℕ
 longest_path = 4096
 
--- the line of the first rule that names the path, which is not too long; programs are there, or are not
+-- the line of the first rule that names the path, if the path is not too long; `is_program` means that a program is at
+-- the path
 abbrev pub line_at : List RuleText → (path : List ℕ) → (is_program : Bool) → Option ℕ
 line_at rules path is_program =
     if nat_le (length path) longest_path then line_of rules path is_program else None
 
--- the entry, if there is one, gives nobody a right
+-- the entry, if there is one, gives no user a right
 abbrev pub is_harmless_if : (measures : Bool) → Option Attributes → Bool
 is_harmless_if measures None = true
 is_harmless_if measures (Some entry) = is_harmless measures entry
@@ -36,8 +37,8 @@ abbrev pub has_entry : Pair → Bool
 has_entry (None, None) = false
 has_entry _ = true
 
--- A list may leave a change out: it is not at the path of the settings, no entry that is there gives a right,
--- and nobody may write a directory who could not before.
+-- A list may leave a change out: its path is not that of the settings, neither entry gives a right, and every user who
+-- may write a directory could write it before.
 abbrev pub may_go : Measures → (path : List ℕ) → Pair → Bool
 may_go measures path pair = not (is_setting path)
     && (is_harmless_if measures.of_old pair.0

@@ -1,4 +1,4 @@
--- Which entries give somebody a right.
+-- Which entries give a user a right.
 use Rattle.std.specs.Prelude.{ℕ, ◌%◌, ◌==◌, ℤ, pos, negsuc, nat_lt, Bool, true, false, not, ◌&&◌}
 use Rattle.std.specs.Prelude.{◌||◌, if◌then◌else◌, Option, Some, None, is_some}
 use Rattle.std.specs.Int.{bit_at}
@@ -8,7 +8,7 @@ use Rattle.aide_attr.specs.declared.file_type.FileType.TheVariants.{Block, Char,
 use Rattle.aide_attr.specs.declared.file_type.FileType.TheVariants.{Link, Other}
 use Rattle.aide_entry.specs.Attributes.{Attributes, Value, number_in, type_in}
 
--- the permissions, if the number is some
+-- a number as permissions: none if it is missing, negative or above 4095
 abbrev pub mode_by : Option ℤ → Option ℕ
 mode_by (Some (pos mode)) = if nat_lt mode 4096 then Some mode else None
 mode_by (Some (negsuc mode)) = None
@@ -22,17 +22,17 @@ mode_in value = mode_by (number_in value)
 abbrev pub has_bit : ℕ → ℕ → Bool
 has_bit mode bit = bit_at mode bit == 1
 
--- somebody may execute a file with these permissions
+-- some user may execute a file with these permissions
 abbrev pub may_run : ℕ → Bool
 may_run mode = has_bit mode 6 || (has_bit mode 3 || has_bit mode 0)
 
--- a program is a regular file that somebody may execute
+-- a program is a regular file that some user may execute
 abbrev pub is_program : FileType → ℕ → Bool
 is_program File mode = may_run mode
 is_program _ mode = false
 
--- Who executes it gets the rights of its user or of its group. In a directory the bit of the group only says whose
--- group new files have.
+-- Executing the file gives the rights of its user or of its group. In a directory, the bit of the group only decides
+-- the group of new files.
 abbrev pub gives_id : FileType → ℕ → Bool
 gives_id Directory mode = has_bit mode 11
 gives_id _ mode = has_bit mode 11 || has_bit mode 10
@@ -43,11 +43,11 @@ is_root (Some (pos user)) = user == 0
 is_root (Some (negsuc user)) = false
 is_root None = false
 
--- somebody has a permission, or its owner may give himself one
+-- some user has a permission, or the owner is not root and may set one
 abbrev pub is_within_reach : ℕ → (owner : Option ℤ) → Bool
 is_within_reach mode owner = not (mode % 512 == 0) || not (is_root owner)
 
--- a device that somebody may open: one without permissions that is root's is none
+-- a device that some user may open: any but one that belongs to root and has no permissions
 abbrev pub is_open_device : FileType → ℕ → (owner : Option ℤ) → Bool
 is_open_device Char mode owner = is_within_reach mode owner
 is_open_device Block mode owner = is_within_reach mode owner
@@ -58,13 +58,13 @@ abbrev pub has_capabilities : FileType → Option Value → Bool
 has_capabilities Link capabilities = false
 has_capabilities _ capabilities = is_some capabilities
 
--- the type is one of the seven that there are
+-- the type is one of the seven with a name
 abbrev pub is_known : FileType → Bool
 is_known (Other bits) = false
 is_known _ = true
 
--- An entry of this type, with these permissions, gives nobody a right. Of a program that is known only if its database
--- has the column of capabilities.
+-- An entry of this type, with these permissions, gives no user a right. For a program, this is known only if its
+-- database contains the column of capabilities.
 abbrev pub is_harmless_as : (measures : Bool) → FileType → ℕ → (owner : Option ℤ) → Option Value
     → Bool
 is_harmless_as measures kind mode owner capabilities = is_known kind
@@ -72,20 +72,20 @@ is_harmless_as measures kind mode owner capabilities = is_known kind
     && (not (has_capabilities kind capabilities)
     && (not (is_open_device kind mode owner) && (not (is_program kind mode) || measures))))
 
--- the same, if it has a type and permissions; an entry without them may give any right
+-- an entry gives no user a right; without a type or permissions it may give any right
 abbrev pub is_harmless_by : (measures : Bool) → Option FileType → Option ℕ → (owner : Option ℤ)
     → Option Value → Bool
 is_harmless_by measures (Some kind) (Some mode) owner capabilities =
     is_harmless_as measures kind mode owner capabilities
 is_harmless_by measures _ _ owner capabilities = false
 
--- an entry gives nobody a right
+-- an entry gives no user a right
 abbrev pub is_harmless : (measures : Bool) → Attributes → Bool
 is_harmless measures entry =
     is_harmless_by measures (type_in (entry Ftype)) (mode_in (entry Perm)) (number_in (entry Uid))
     (entry Caps)
 
--- the same of a program, if this is its type and these are its permissions
+-- an entry with this type and these permissions is that of a program
 abbrev pub is_program_by : Option FileType → Option ℕ → Bool
 is_program_by (Some kind) (Some mode) = is_program kind mode
 is_program_by _ _ = false

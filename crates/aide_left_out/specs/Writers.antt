@@ -32,20 +32,21 @@ others_write entry = others_write_by (mode_in (entry Perm))
 abbrev pub is_kept : (before after : Attributes) → Attr → Bool
 is_kept before after a = not (is_affected (sides_between before after) a)
 
--- the same may write a directory that was one before
+-- The same users may write a directory as before. Its owner is the same and, if others may write
+-- it, so are its permissions, group and access list.
 abbrev pub keeps_writers : (before after : Attributes) → Bool
 keeps_writers before after = is_kept before after Uid
     && (not (others_write after)
     || (is_kept before after Perm && (is_kept before after Gid && is_kept before after Acl)))
 
--- A directory that somebody may write who could not before: one that others than its owner may write and that was none,
--- or one that was and whose owner, or what says who else may write it, is not as it was.
+-- A directory has new writers. If it was a directory before, its writers are not the same. Otherwise others than its
+-- owner may write it.
 abbrev pub gains_writers : Option Attributes → (after : Attributes) → Bool
 gains_writers None after = is_directory after && others_write after
 gains_writers (Some before) after = is_directory after
     && (if is_directory before then not (keeps_writers before after) else others_write after)
 
--- the new entry, if there is one, is such a directory
+-- the new entry, if there is one, is a directory with new writers
 abbrev pub opens_directory : (old_one new_one : Option Attributes) → Bool
 opens_directory old_one None = false
 opens_directory old_one (Some after) = gains_writers old_one after

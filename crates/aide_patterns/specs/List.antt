@@ -1,4 +1,4 @@
--- What a list says: the rules of its lines, or its first fault.
+-- What a list means: the rules of its lines, or its first fault.
 use Rattle.std.specs.Prelude.{◌≡◌, ◌≤◌, ◌<◌, ◌+◌, ◌⊎◌, ℕ, length, List, [], ◌∷◌, ◌++◌, Option, Some}
 use Rattle.std.specs.Prelude.{None, Result, Ok, Err}
 use Rattle.std.specs.List.{All, flat_map}
@@ -8,7 +8,7 @@ use Rattle.aide_patterns.specs.declared.fault.ListFault.{ListFault}
 use Rattle.aide_patterns.specs.declared.fault.ListFaultKind.{ListFaultKind}
 use Rattle.aide_patterns.specs.declared.fault.ListFaultKind.TheVariants.{TooMany}
 
--- a list has at most so many rules
+-- the greatest number of rules in a list
 abbrev pub most_rules : ℕ
 most_rules = 500
 
@@ -25,13 +25,13 @@ numbered number (text ∷ texts) = (number, text) ∷ numbered (number + 1) text
 abbrev pub lines_of : List ℕ → List Line
 lines_of text = numbered 1 (pieces 10 text)
 
--- the rule that was read of a line, if it has one
+-- the rule in the result of a line, if there is one
 abbrev pub rule_read : LineResult → List RuleText
 rule_read (Ok None) = []
 rule_read (Ok (Some rule)) = rule ∷ []
 rule_read (Err kind) = []
 
--- the fault that was read of a line, if it has one
+-- the fault in the result of a line, if there is one
 abbrev pub fault_read : LineResult → Option ListFaultKind
 fault_read (Ok rule) = None
 fault_read (Err kind) = Some kind
@@ -54,12 +54,12 @@ pub record HasRules (text : List ℕ) (rules : List RuleText) : Type 0 where
   pub all : rules ≡ rules_of (lines_of text)
   pub few : length rules ≤ most_rules
 
--- A line after others has this fault: its own one, or that its rule is one too many.
+-- A line after these lines has this fault: a fault of its own, or one rule too many.
 abbrev pub HasFault : (before : List Line) → Line → ListFaultKind → Type 0
 HasFault before line kind = (fault_read (rule_of line.0 line.1) ≡ Some kind)
     ⊎ ((kind ≡ TooMany) × (most_rules < length (rules_of before ++ rule_at line)))
 
--- The first fault of the list: the line with its number has it, and no line before that one has any.
+-- The first fault of the list: the line with its number has this fault, and the lines before that line have none.
 pub record HasFirstFault (text : List ℕ) (fault : ListFault) : Type 0 where
   pub before : List Line
   pub line : List ℕ

@@ -8,12 +8,12 @@ use Rattle.aide_patterns.specs.Component.{component_parts}
 use Rattle.aide_patterns.specs.Path.{Pattern, begins_with, components, is_dotted, pattern_of}
 use Rattle.aide_patterns.specs.Line.{RuleText}
 
--- a list, or what remains of it after some of its items, passes a test
+-- a list passes a test, with all its items or without some at its beginning
 abbrev pub some_rest : {X : Type 0} → (List X → Bool) → List X → Bool
 some_rest test [] = test []
 some_rest test (x ∷ xs) = test (x ∷ xs) || some_rest test xs
 
--- the same, after at least one of its items
+-- a list passes a test without at least one item at its beginning
 abbrev pub later_rest : {X : Type 0} → (List X → Bool) → List X → Bool
 later_rest test [] = false
 later_rest test (x ∷ xs) = some_rest test xs
@@ -45,17 +45,17 @@ matches_parts parts name = matches passes_byte parts name
 abbrev pub matches_name : (component name : List ℕ) → Bool
 matches_name component name = matches_parts (component_parts component) name
 
--- the same of a path
+-- a path matches a pattern, if wildcards may match a dot at the beginning of a name
 abbrev pub matches_path : Pattern → List ℕ → Bool
 matches_path pattern path = matches matches_name pattern (components path)
 
--- how many of these begin with a dot
+-- how many of these names begin with a dot
 abbrev pub dots : List (List ℕ) → ℕ
 dots [] = 0
 dots (name ∷ more) = (if is_dotted name then 1 else 0) + dots more
 
--- A path matches the text of a pattern. A component that begins with a dot matches no other name, so it is enough that
--- the pattern has as many of them as the path.
+-- A path matches the text of a pattern. A component that begins with a dot matches only names that begin with one. It
+-- is therefore enough to compare how many of each there are.
 abbrev pub matches_text : (pattern path : List ℕ) → Bool
 matches_text pattern path = begins_with 47 path
     && (matches_path (pattern_of pattern) path
