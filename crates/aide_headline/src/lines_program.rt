@@ -29,7 +29,8 @@ use std::alloc::Global;
 /// - If no device counts a failure, the program ends with the right answer over the four texts or out of memory. If
 ///   all four are sound, exactly the lines go out that the definitions assign to the four maps, to the rules of the
 ///   list and to the SHA-256 of its text. Otherwise the first fault is named, in the order old, new, trusted old,
-///   trusted new, and a beginning of what comes before the last line has gone out (`answer`).
+///   trusted new, and a beginning of what comes before the last line has gone out (`answer`). No faulty line and no
+///   line after it has a part in this beginning (`early` of `BeginsOverTexts`).
 /// - Neither desk holds more than the longest line of each text of its pair and one more line no longer than these
 ///   (`bound`, `trusted_bound`).
 ///

@@ -28,7 +28,7 @@ use Rattle.aide_merge.specs.declared.run_fault.RunFault.{RunFault}
 use Rattle.aide_merge.specs.declared.run_fault.RunFault.TheVariants.{Open, Database, Changed, Write}
 use Rattle.aide_session.specs.Answer.{Named, asked_by, limits}
 use Rattle.aide_session.specs.LineAnswer.{ComparesForLines}
-use Rattle.aide_session.specs.LineAnswer.{LineAnswer, HasWritten, LineOutput, HasBegun, all_lines, line_answer, no_line}
+use Rattle.aide_session.specs.LineAnswer.{BeginsOverTexts, LineAnswer, HasWritten, LineOutput, HasBegun, all_lines, line_answer, no_line}
 use Rattle.aide_session.specs.LineAnswer.{lines_at_fault, start_of_lines, trusted_of}
 use Rattle.aide_session.specs.LineEnds.{PairFailure, PairFailureCause, LineView, ComparesPairs}
 use Rattle.aide_session.specs.LineEnds.{EndsWithin, MeansOfPair, pair_failure_line}
@@ -41,8 +41,10 @@ use Rattle.aide_session.specs.Lines.{kind_line, outcome_lines, run_fault_line}
 use Rattle.aide_session.specs.TrustedLines.{pair_fault_line, pair_fault_status, trusted_fault_line, trusted_kind_line}
 use Rattle.aide_session.proofs.Endings.{never_true, rose_later, true_is_not_false}
 use Rattle.aide_session.proofs.PutLemmas.{put_as}
-use Rattle.aide_line_run.specs.Lines.{BeginsLines, lines_of_texts}
-use Rattle.aide_line_run.specs.RunEnds.{AreAllSound, CutsLines, RunsLines, SendsWholeOf, StopsForPair, answer_by, changes_between}
+use Rattle.aide_line_run.specs.BeforeFault.{AreBeforeFaults, FourTexts}
+use Rattle.aide_line_run.specs.Lines.{lines_of_texts}
+use Rattle.aide_line_run.specs.RunEnds.{AreAllSound, CutsFronts, CutsLines, RunsLines, SendsWholeOf, StopsForPair, answer_by}
+use Rattle.aide_line_run.specs.RunEnds.{changes_between}
 use Rattle.aide_line_run.specs.Listed.{ListRead, leaves_between}
 use Rattle.aide_line_run.proofs.WrittenLaws.{begins_what_is_written, begins_with_nothing}
 use Rattle.aide_line_run.specs.Pairs.{OfEach}
@@ -55,15 +57,18 @@ use Rattle.aide_words.specs.LineJob.{LineJobText}
 -- nothing is a beginning of anything
 pub none_starts : (sent : LineOutput) (before after : Option (List ℕ)) → Appends before after [] → HasBegun sent before after
 none_starts (all_lines text) before after none = record { front = []; rest = text; whole = refl; bytes = none }
-none_starts (start_of_lines leaves asked trusted changes trusted_changes) before after none =
-    begins_with_nothing leaves asked trusted changes trusted_changes before after none
+none_starts (start_of_lines list asked trusted texts) before after none = record {
+  cut = begins_with_nothing (leaves_between list texts.old texts.new) asked trusted (changes_between texts.old texts.new)
+      (changes_between texts.trusted_old texts.trusted_new) before after none;
+  early = λ fronts are. record { front = []; rest = _; whole = refl; bytes = none };
+}
 
 -- what has gone out is a beginning of itself
 goes_then_starts : (sent : LineOutput) (before after : Option (List ℕ)) → HasWritten sent before after
     → HasBegun sent before after
 goes_then_starts (all_lines text) before after all =
     record { front = text; rest = []; whole = sym (append-nil text); bytes = all }
-goes_then_starts (start_of_lines leaves asked trusted changes trusted_changes) before after part = part
+goes_then_starts (start_of_lines list asked trusted texts) before after part = part
 
 -- ---- a run that is kept from its answer
 
@@ -198,41 +203,44 @@ unsound_pair : (wish : Asked) (old new : List ℕ) (fault : RunFault) → RunsOv
     → IsSound limits old → IsSound limits new → ⊥
 unsound_pair wish old new fault runs = unsound_run wish old new fault runs.0 runs.1 runs.2
 
-module _ (list : ListRead) (wish trusted_wish : Asked) (old new trusted_old trusted_new : List ℕ) (before after : Option (List ℕ)) where
+module _ (list : ListRead) (wish trusted_wish : Asked) (texts : FourTexts) (before after : Option (List ℕ)) where
   abbrev AllSound : Type 0
-  AllSound = AreAllSound limits old new trusted_old trusted_new
+  AllSound = AreAllSound limits texts.old texts.new texts.trusted_old texts.trusted_new
+
+  abbrev all_texts : Report
+  all_texts = lines_of_texts list wish trusted_wish texts.old texts.new texts.trusted_old texts.trusted_new
 
   abbrev Cut : PairFault → Type 0
-  Cut fault = CutsLines limits list wish trusted_wish old new trusted_old trusted_new before after fault
+  Cut fault = CutsLines limits list wish trusted_wish texts.old texts.new texts.trusted_old texts.trusted_new before after fault
 
-  sound_cut : (fault : PairFault) → AllSound → Cut fault
-      → SendsPart (lines_of_texts list wish trusted_wish old new trusted_old trusted_new).text before after
+  abbrev Early : PairFault → Type 0
+  Early fault = (fronts : FourTexts) → AreBeforeFaults limits texts fronts
+      → CutsFronts limits list wish trusted_wish texts fronts before after fault
+
+  sound_cut : (fault : PairFault) → AllSound → Cut fault → SendsPart all_texts.text before after
   sound_cut (Compared (Write written)) sound cut = cut.0 sound
-  sound_cut fault sound cut = begins_what_is_written limits list wish trusted_wish old new trusted_old trusted_new sound before after cut
+  sound_cut fault sound cut =
+      begins_what_is_written limits list wish trusted_wish texts.old texts.new texts.trusted_old texts.trusted_new sound before after cut
 
-  abbrev Begun : Type 0
-  Begun = BeginsLines (leaves_between list old new) wish trusted_wish (changes_between old new)
-      (changes_between trusted_old trusted_new) before after
-
-  unsound_cut : (fault : PairFault) → (AllSound → ⊥) → Cut fault → Begun
-  unsound_cut (Compared (Write written)) unsound cut = cut.1 unsound
-  unsound_cut fault unsound cut = cut
+  unsound_cut : (fault : PairFault) → (AllSound → ⊥) → Cut fault → Early fault
+      → BeginsOverTexts list wish trusted_wish texts before after
+  unsound_cut (Compared (Write written)) unsound cut early =
+      record { cut = cut.1 unsound; early = λ fronts are. early fronts are unsound }
+  unsound_cut fault unsound cut early = record { cut = cut; early = early }
 
   front_by : (compared trusted : Result Report RunFault) (r : Result Report PairFault) (fault : PairFault)
-      → RunsOver limits wish (Some old) (Some new) compared → RunsOver limits trusted_wish (Some trusted_old) (Some trusted_new) trusted
-      → answer_by compared trusted (Some (lines_of_texts list wish trusted_wish old new trusted_old trusted_new)) r
-      → Cut fault
-      → SendsFront (lines_at_fault list wish trusted_wish (Some old) (Some new) (Some trusted_old) (Some trusted_new)) r before after
-  front_by (Err first) trusted r fault runs trusted_runs is cut =
-      subst (λ (x : Result Report PairFault). SendsFront (lines_at_fault list wish trusted_wish (Some old) (Some new) (Some trusted_old)
-      (Some trusted_new)) x before after) (sym is)
-      (unsound_cut fault (λ sound. unsound_pair wish old new first runs sound.of_old sound.of_new) cut)
-  front_by (Ok report) (Err first) r fault runs trusted_runs is cut =
-      subst (λ (x : Result Report PairFault). SendsFront (lines_at_fault list wish trusted_wish (Some old) (Some new) (Some trusted_old)
-      (Some trusted_new)) x before after) (sym is)
-      (unsound_cut fault (λ sound. unsound_pair trusted_wish trusted_old trusted_new first trusted_runs sound.of_trusted_old
-      sound.of_trusted_new) cut)
-  front_by (Ok report) (Ok other) r fault runs trusted_runs is cut = search (rules, sound_pair, sound_cut)
+      → RunsOver limits wish (Some texts.old) (Some texts.new) compared
+      → RunsOver limits trusted_wish (Some texts.trusted_old) (Some texts.trusted_new) trusted
+      → answer_by compared trusted (Some all_texts) r → Cut fault → Early fault
+      → SendsFront (start_of_lines list wish trusted_wish texts) r before after
+  front_by (Err first) trusted r fault runs trusted_runs is cut early =
+      subst (λ (x : Result Report PairFault). SendsFront (start_of_lines list wish trusted_wish texts) x before after) (sym is)
+      (unsound_cut fault (λ sound. unsound_pair wish texts.old texts.new first runs sound.of_old sound.of_new) cut early)
+  front_by (Ok report) (Err first) r fault runs trusted_runs is cut early =
+      subst (λ (x : Result Report PairFault). SendsFront (start_of_lines list wish trusted_wish texts) x before after) (sym is)
+      (unsound_cut fault (λ sound. unsound_pair trusted_wish texts.trusted_old texts.trusted_new first trusted_runs sound.of_trusted_old
+      sound.of_trusted_new) cut early)
+  front_by (Ok report) (Ok other) r fault runs trusted_runs is cut early = search (rules, sound_pair, sound_cut)
 
 -- ---- a comparison and its answer
 
@@ -288,9 +296,11 @@ module _ (job : LineJobText) (list : ListRead) (status before count : ℕ) (v : 
   front_of fault (Some old) (Some new) (Some trusted_old) None r compares is_old is_new is_trusted_old is_trusted_new runs =
       none_front r v.sinks.out_old v.sinks.out_new (compares.trusted_missing New is_trusted_new)
   front_of fault (Some old) (Some new) (Some trusted_old) (Some trusted_new) r compares is_old is_new is_trusted_old is_trusted_new runs =
-      front_by list (asked_by s.options named) (asked_by s.options (trusted_of job)) old new trusted_old trusted_new v.sinks.out_old
-      v.sinks.out_new runs.compared runs.trusted r fault runs.compared_runs runs.trusted_runs runs.answer
+      let texts : FourTexts = record { old = old; new = new; trusted_old = trusted_old; trusted_new = trusted_new } in
+      front_by list (asked_by s.options named) (asked_by s.options (trusted_of job)) texts v.sinks.out_old v.sinks.out_new
+      runs.compared runs.trusted r fault runs.compared_runs runs.trusted_runs runs.answer
       (compares.cut old new trusted_old trusted_new is_old is_new is_trusted_old is_trusted_new)
+      (λ fronts are. compares.early texts fronts is_old is_new is_trusted_old is_trusted_new are)
 
   pub compared_ends : (result : Result Outcome PairFault)
       → ComparesPairs list named (trusted_of job) s.options result (Rose count v.site_after) v

@@ -34,7 +34,7 @@ use Rattle.aide_session.proofs.Comparisons.{caused_of}
 use Rattle.aide_session.proofs.Endings.{rose_later}
 use Rattle.aide_text.specs.declared.sink.Sink.{Ghosts as AnySink}
 use Rattle.aide_line_run.specs.Lines.{AreAllLines}
-use Rattle.aide_line_run.specs.RunEnds.{CutsLines, IsFaultOfPair, RunsLines}
+use Rattle.aide_line_run.specs.RunEnds.{CutsFronts, CutsLines, IsFaultOfPair, RunsLines}
 use Rattle.aide_line_run.specs.Listed.{ListRead}
 use Rattle.aide_line_run.specs.PairSeen.{PairSeen, pair_seen}
 use Rattle.aide_line_run.specs.Pairs.{OfEach}
@@ -169,6 +169,11 @@ compares_pairs src w e x y p q out_old out_new err_old err_new d f u v list wish
           (w.delivered out_new))) (sym asks)
           (ran.cut old new trusted_old trusted_new (tells Old old has_old, tells New new has_new)
           (trusted_tells Old trusted_old has_trusted_old, trusted_tells New trusted_new has_trusted_new));
+      early = λ texts fronts has_old has_new has_trusted_old has_trusted_new are.
+          subst (λ (o : Asked). IfErr result (CutsFronts limits list wish o texts fronts (w.delivered out_old) (w.delivered out_new)))
+          (sym asks)
+          (ran.early texts fronts (tells Old texts.old has_old, tells New texts.new has_new)
+          (trusted_tells Old texts.trusted_old has_trusted_old, trusted_tells New texts.trusted_new has_trusted_new) are);
       unopened = ran.unopened;
       missing = missing_file (src.file_at x) wish (src.bytes_of x) (src.is_missing x) config _ pointed ran.missing;
       trusted_missing = missing_file (trusted_at (src.file_at p)) trusted_wish (src.bytes_of p) (src.is_missing p) config _ trusted_pointed

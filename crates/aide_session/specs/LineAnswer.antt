@@ -13,7 +13,6 @@ use Rattle.aide_patterns.specs.Line.{RuleText}
 use Rattle.aide_patterns.specs.List.{IsReading}
 use Rattle.aide_patterns.specs.declared.fault.ListFault.{ListFault}
 use Rattle.aide_merge.specs.Asked.{Asked}
-use Rattle.aide_merge.specs.Said.{PathChange}
 use Rattle.aide_merge.specs.Outcomes.{status_of}
 use Rattle.aide_merge.specs.RightAnswer.{Report}
 use Rattle.aide_session.specs.Answer.{Named, asked_by, limits}
@@ -22,9 +21,10 @@ use Rattle.aide_session.specs.GivenList.{list_line, list_of}
 use Rattle.aide_session.specs.Lines.{conf_line, outcome_lines, too_large_line, unread_line}
 use Rattle.aide_session.specs.TrustedLines.{pair_fault_line, pair_fault_status}
 use Rattle.aide_text.specs.Sent.{SendsPart}
+use Rattle.aide_line_run.specs.BeforeFault.{AreBeforeFaults, FourTexts}
 use Rattle.aide_line_run.specs.Lines.{BeginsLines}
-use Rattle.aide_line_run.specs.RunEnds.{RunsLines, changes_between}
-use Rattle.aide_line_run.specs.Listed.{Leaves, ListRead, leaves_between}
+use Rattle.aide_line_run.specs.RunEnds.{RunsLines, changes_between, lines_before_last}
+use Rattle.aide_line_run.specs.Listed.{ListRead, leaves_between}
 use Rattle.aide_line_run.specs.declared.pair_fault.PairFault.{PairFault}
 use Rattle.aide_words.specs.LineJob.{LineJobText}
 
@@ -36,12 +36,21 @@ trusted_of job = record {
   new_path = job.trusted_new;
 }
 
--- The output: a complete text, or a beginning of the first line and the lines of some changes. The accounts come from
--- the changes of a trusted pair, or from a list.
+-- No more than a beginning of what comes before the last line has been written, over four texts, sound or not.
+pub record BeginsOverTexts (list : ListRead) (asked trusted : Asked) (texts : FourTexts)
+    (before after : Option (List ℕ)) : Type 0 where
+  -- by the changes of all entry lines, each with what accounts for it by those of the trusted pair or by the list
+  pub cut : BeginsLines (leaves_between list texts.old texts.new) asked trusted
+      (changes_between texts.old texts.new)
+      (changes_between texts.trusted_old texts.trusted_new) before after
+  -- by the maps of what comes before the first fault of each text
+  pub early : (fronts : FourTexts) → AreBeforeFaults limits texts fronts
+      → SendsPart (lines_before_last list asked trusted fronts) before after
+
+-- The output: a complete text, or no more than a beginning of the lines over four texts.
 pub data LineOutput : Type 0 where
   all_lines : List ℕ → LineOutput
-  start_of_lines : Leaves → (asked trusted : Asked) → (changes trusted_changes : List PathChange)
-      → LineOutput
+  start_of_lines : ListRead → (asked trusted : Asked) → FourTexts → LineOutput
 
 -- the empty output
 abbrev pub no_line : LineOutput
@@ -50,14 +59,14 @@ no_line = all_lines []
 -- this has been written between two moments
 abbrev pub HasWritten : LineOutput → (before after : Option (List ℕ)) → Type 0
 HasWritten (all_lines text) before after = Appends before after text
-HasWritten (start_of_lines leaves asked trusted changes trusted_changes) before after =
-    BeginsLines leaves asked trusted changes trusted_changes before after
+HasWritten (start_of_lines list asked trusted texts) before after =
+    BeginsOverTexts list asked trusted texts before after
 
 -- no more than a beginning of it has been written
 abbrev pub HasBegun : LineOutput → (before after : Option (List ℕ)) → Type 0
 HasBegun (all_lines text) before after = SendsPart text before after
-HasBegun (start_of_lines leaves asked trusted changes trusted_changes) before after =
-    BeginsLines leaves asked trusted changes trusted_changes before after
+HasBegun (start_of_lines list asked trusted texts) before after =
+    BeginsOverTexts list asked trusted texts before after
 
 -- what a session with a trusted pair writes to standard output and to standard error, and its
 -- status
@@ -75,8 +84,12 @@ refused_lines lines status = record { output = no_line; errors = lines; status =
 abbrev pub lines_at_fault : ListRead → (asked trusted : Asked)
     → (old new trusted_old trusted_new : Option (List ℕ)) → LineOutput
 lines_at_fault list asked trusted (Some old) (Some new) (Some trusted_old) (Some trusted_new) =
-    start_of_lines (leaves_between list old new) asked trusted
-    (changes_between old new) (changes_between trusted_old trusted_new)
+    start_of_lines list asked trusted (record {
+      old = old;
+      new = new;
+      trusted_old = trusted_old;
+      trusted_new = trusted_new;
+    })
 lines_at_fault list asked trusted _ _ _ _ = no_line
 
 -- The answer of a comparison with a trusted pair, by the paths of both pairs: what is written, or

@@ -35,8 +35,9 @@ use Rattle.aide_session.specs.Lines.{unread_line}
 use Rattle.aide_session.specs.TrustedLines.{pair_fault_line, pair_fault_status}
 use Rattle.aide_session.specs.TrustedLines.{trusted_database_line, trusted_open_line}
 use Rattle.aide_text.specs.Failures.{CountsFlush}
+use Rattle.aide_line_run.specs.BeforeFault.{AreBeforeFaults, FourTexts}
 use Rattle.aide_line_run.specs.Lines.{AreAllLines}
-use Rattle.aide_line_run.specs.RunEnds.{CutsLines, EndsLines, RunsLines}
+use Rattle.aide_line_run.specs.RunEnds.{CutsFronts, CutsLines, EndsLines, RunsLines}
 use Rattle.aide_line_run.specs.Listed.{ListRead}
 use Rattle.aide_line_run.specs.Pairs.{OfEach}
 use Rattle.aide_line_run.specs.declared.pair_fault.PairFault.{PairFault}
@@ -244,6 +245,14 @@ pub record ComparesPairs (list : ListRead) (named trusted : Named) (options : Op
       → HasText v.trusted_files trusted New trusted_new
       → IfErr result (CutsLines limits list (asked_by options named) (asked_by options trusted)
       old new trusted_old trusted_new v.sinks.out_old v.sinks.out_new)
+  -- What has been written at a fault, by what comes before the first fault of each text.
+  pub early : (texts fronts : FourTexts) → HasText v.files named Old texts.old
+      → HasText v.files named New texts.new
+      → HasText v.trusted_files trusted Old texts.trusted_old
+      → HasText v.trusted_files trusted New texts.trusted_new
+      → AreBeforeFaults limits texts fronts
+      → IfErr result (CutsFronts limits list (asked_by options named) (asked_by options trusted)
+      texts fronts v.sinks.out_old v.sinks.out_new)
   -- Before all four databases are open nothing is written.
   pub unopened : IfErr result (OfEach (KeepsUnopened v.sinks.out_old v.sinks.out_new)
       (KeepsUnopened v.sinks.out_old v.sinks.out_new))
