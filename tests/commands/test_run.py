@@ -2,7 +2,6 @@
 from __future__ import annotations
 
 import gzip
-import os
 import subprocess
 import time
 from typing import Any
