@@ -1,7 +1,6 @@
 """Streams of lines as aide_lines writes them, made of a few values of changes."""
 from __future__ import annotations
 
-import json
 from typing import Any
 
 from aide_compare.base.files import in_memory
@@ -41,7 +40,3 @@ def stream_of(*changes: Fields) -> int:
     end = {**end, "others": len(changes) - same, **dict.fromkeys((*SIDES, *TRUSTED_SIDES), side)}
     first = {"format": 4, "old": "o", "new": "n", **dict.fromkeys(TRUSTED_SIDES, "")}
     return in_memory(b"".join(map(line_of, [first, *ordered, end])))
-
-
-def objects_in(data: bytes) -> list[Fields]:
-    return [json.loads(line) for line in data.splitlines()]
