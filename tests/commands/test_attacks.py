@@ -5,15 +5,13 @@ from __future__ import annotations
 import gzip
 import os
 import signal
-import stat
 import time
 from typing import Any
 
 from tests.lib.answer import Answer
 from tests.lib.program_test import slow
 
-from .sandbox import AS_NOBODY, CommandTest, NEW, NOBODY, OLD, sha256
-from .states import state_text
+from .sandbox import AS_NOBODY, CommandTest, NEW, NOBODY, OLD
 
 TOOL = "aide-compare compare --report"
 LIMITED = "resource.setrlimit(resource.RLIMIT_%s, (%d, %d))"
@@ -146,52 +144,6 @@ class AttacksTest(CommandTest):
             self.refused(18, b"is not followed", TOOL, "old.db", name)
         for name in ("his/new.db", "mine/new.db"):
             self.compared("old.db", name)
-
-    def test_state_of_others(self) -> None:
-        """In a folder of another user the state is written with his rights, and what he puts there
-        harms only him."""
-        self.needs_root()
-        self.write("target", b"of root\n", 0o600)
-        os.makedirs(self.path("his"))
-        os.chown(self.path("his"), NOBODY, NOBODY)
-        self.compared("old.db", "new.db", "--state", "his/state")
-        found = os.stat(self.path("his/state"))
-        self.assertEqual((found.st_uid, found.st_mode & 0o7777), (NOBODY, 0o644))
-        words = (TOOL, "old.db", "new.db", "--state")
-        for name in ("his/link", "link"):
-            os.symlink(self.path("target"), self.path(name))
-            self.refused(18, b"is a link", *words, name)
-        os.makedirs(self.path("shared"))
-        os.chmod(self.path("shared"), 0o777)
-        self.refused(18, b"other users can write", *words, "shared/state")
-        self.assertEqual(self.read("target"), b"of root\n")
-        self.assertEqual(os.stat(self.path("target")).st_mode & 0o7777, 0o600)
-
-    def test_devices(self) -> None:
-        """A device that is given as an output stays a device. It is one of the trial, made as
-        /dev/null is: a command with a bug that ran as root would replace that of the machine."""
-        self.needs_root()
-        place, number = self.path("devices"), os.makedev(1, 3)
-        self.write("fine", state_text(time=int(time.time())))
-        self.stub("sendmail", "cat > /dev/null")
-        for words in (
-            ("aide-compare", "old.db", "new.db", "--state", "devices/null"),
-            ("aide-compare status --format prometheus", "--state", "fine", "devices/null"),
-            ("aide-compare accept", "--sha256", sha256(NEW), "new.db", "devices/null"),
-            ("aide-compare mail", "old.db", "new.db", "--state", "devices/null"),
-        ):
-            os.mkdir(place)
-            try:
-                os.mknod(place + "/null", stat.S_IFCHR | 0o666, number)
-            except PermissionError:
-                self.skipTest("no device can be made here")
-            self.refused(18, None, *words)
-            self.assertEqual(os.listdir(place), ["null"], words)
-            found = os.lstat(place + "/null")
-            self.assertTrue(stat.S_ISCHR(found.st_mode), (words, found))
-            self.assertEqual(found.st_rdev, number, words)
-            os.remove(place + "/null")
-            os.rmdir(place)
 
     def test_user(self) -> None:
         """Root compares with the rights of a user, and nobody else gets another one's."""
