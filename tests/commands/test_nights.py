@@ -1,5 +1,5 @@
-"""Real nights of a Debian 12, cut to some 40 to 100 entries each: the nights of an intruder among
-ordinary changes.
+"""Real nights of a Debian 12, cut to some 20 to 60 entries each: a rotation, and an intruder among
+the changes of an install and of an upgrade.
 
 The texts in tests/nights have lines of AIDE's databases and of dpkg's records as they were, those
 that are so in both nights once. A paragraph of dpkg's status and each other record is one line,
@@ -70,7 +70,7 @@ def wanted_of(parts: Parts) -> Dict[bytes, str]:
 class NightsTest(CommandTest):
     def test_nights(self) -> None:
         names = sorted(name[:-4] for name in os.listdir(DIRECTORY) if NIGHT.fullmatch(name))
-        self.assertGreater(len(names), 5, "there are nights")
+        self.assertEqual(len(names), 3, "there are nights")
         for name in names:
             parts = read_night(name)
             for side in ("old", "new"):
