@@ -7,12 +7,11 @@ use Rattle.aide_db.specs.declared.fault.DbFault.{DbFault}
 use Rattle.aide_db.specs.declared.limits.Limits.{Limits}
 use Rattle.aide_headline.specs.LineHeadline.{IsFirstOfPair, IsRightLineAnswer}
 use Rattle.aide_merge.specs.Asked.{Asked}
-use Rattle.aide_report.specs.Missing.{RunsOver}
-use Rattle.aide_merge.specs.RightAnswer.{Report}
-use Rattle.aide_report.specs.Runs.{report_over}
+use Rattle.aide_merge.specs.Outcomes.{outcome_over}
+use Rattle.aide_merge.specs.RightAnswer.{Report, RunsOverBy}
 use Rattle.aide_merge.specs.declared.run_fault.RunFault.{RunFault}
 use Rattle.aide_merge.specs.declared.run_fault.RunFault.TheVariants.{Database}
-use Rattle.aide_report.proofs.MissingLemmas.{RunsOver-exists}
+use Rattle.aide_merge.proofs.RightAnswers.{RunsOverBy-exists}
 use Rattle.aide_line_run.specs.RunEnds.{RunsLines}
 use Rattle.aide_line_run.specs.Listed.{ListRead}
 use Rattle.aide_line_run.specs.declared.pair_fault.PairFault.{PairFault}
@@ -26,14 +25,14 @@ use Rattle.aide_session.proofs.LineLaws.{line_answer_by_what_is_asked}
 use Rattle.aide_words.specs.LineJob.{LineJobText}
 
 module _ (limits : Limits) (wish : Asked) (old new : List ℕ) where
-  -- two sound texts have the report for their answer
+  -- two sound texts have their outcome for their answer
   sound_runs : IsSound limits old → IsSound limits new
-      → RunsOver limits wish (Some old) (Some new) (Ok (report_over wish old new))
-  sound_runs sound_old sound_new = (Ok (report_over wish old new), (sound_old, sound_new, refl), refl)
+      → RunsOverBy limits (outcome_over wish.options) (Some old) (Some new) (Ok (outcome_over wish.options old new))
+  sound_runs sound_old sound_new = (Ok (outcome_over wish.options old new), (sound_old, sound_new, refl), refl)
 
   -- the first fault of two texts is their answer
   fault_runs : (fault : RunFault) (first : DbFault) → fault ≡ Database first → IsFirstOfPair limits old new first
-      → RunsOver limits wish (Some old) (Some new) (Err fault)
+      → RunsOverBy limits (outcome_over wish.options) (Some old) (Some new) (Err fault)
   fault_runs fault first same is = (Err first, is, ap (λ (f : RunFault). Err f) same)
 
 -- The right answer over four texts is what a run over both pairs has for its answer.
@@ -42,14 +41,14 @@ pub right_is_the_answer : (limits : Limits) (list : ListRead) (wish trusted_wish
     → IsRightLineAnswer limits list wish trusted_wish old new trusted_old trusted_new right
     → RunsLines limits list wish trusted_wish (Some old) (Some new) (Some trusted_old) (Some trusted_new) right
 right_is_the_answer limits list wish trusted_wish old new trusted_old trusted_new (Ok report) least is = record {
-  compared = Ok (report_over wish old new);
-  trusted = Ok (report_over trusted_wish trusted_old trusted_new);
+  compared = Ok (outcome_over wish.options old new);
+  trusted = Ok (outcome_over trusted_wish.options trusted_old trusted_new);
   compared_runs = sound_runs limits wish old new is.0 is.1;
   trusted_runs = sound_runs limits trusted_wish trusted_old trusted_new is.2 is.3;
   answer = ap (λ (r : Report). Ok r) is.4;
 }
 right_is_the_answer limits list wish trusted_wish old new trusted_old trusted_new (Err (Compared fault)) least is =
-    let other = RunsOver-exists limits trusted_wish (Some trusted_old) (Some trusted_new) least in
+    let other = RunsOverBy-exists limits (outcome_over trusted_wish.options) (Some trusted_old) (Some trusted_new) least in
     record {
       compared = Err fault;
       trusted = other.0;
@@ -58,7 +57,7 @@ right_is_the_answer limits list wish trusted_wish old new trusted_old trusted_ne
       answer = refl;
     }
 right_is_the_answer limits list wish trusted_wish old new trusted_old trusted_new (Err (Trusted fault)) least is = record {
-  compared = Ok (report_over wish old new);
+  compared = Ok (outcome_over wish.options old new);
   trusted = Err fault;
   compared_runs = sound_runs limits wish old new is.0 is.1;
   trusted_runs = fault_runs limits trusted_wish trusted_old trusted_new fault is.2.0 is.2.1 is.2.2;

@@ -17,7 +17,7 @@ use Rattle.aide_line_run.specs.ChangeLines.{change_line, change_lines, listed_ch
 use Rattle.aide_merge.specs.Compare.{changes}
 use Rattle.aide_line_run.specs.LineCounts.{line_counts, status_by}
 use Rattle.aide_line_run.specs.Lines.{read_of}
-use Rattle.aide_report.specs.Runs.{report_over}
+use Rattle.aide_merge.specs.Outcomes.{outcome_over}
 use Rattle.aide_merge.specs.Said.{all_listed, is_in}
 use Rattle.aide_merge.specs.Seen.{SinkSeen}
 use Rattle.aide_merge.specs.declared.outcome.Outcome.{Outcome}
@@ -259,15 +259,15 @@ module _ (limits : Limits) (list : ListRead) (p q : PairSeen) (o s : SinkSeen) (
       let lines = lines_of_texts list p.asked q.asked old new trusted_old trusted_new in
       let ends =
       run.over (Some old) (Some new) (Some trusted_old) (Some trusted_new) gives trusted_gives (Ok lines) (record {
-        compared = Ok (report_over p.asked old new);
-        trusted = Ok (report_over q.asked trusted_old trusted_new);
+        compared = Ok (outcome_over p.asked.options old new);
+        trusted = Ok (outcome_over q.asked.options trusted_old trusted_new);
         compared_runs = (
-          Ok (report_over p.asked old new),
+          Ok (outcome_over p.asked.options old new),
           (run.sound Old old gives.0, run.sound New new gives.1, refl),
           refl,
         );
         trusted_runs = (
-          Ok (report_over q.asked trusted_old trusted_new),
+          Ok (outcome_over q.asked.options trusted_old trusted_new),
           (run.trusted_sound Old trusted_old trusted_gives.0, run.trusted_sound New trusted_new trusted_gives.1, refl),
           refl,
         );

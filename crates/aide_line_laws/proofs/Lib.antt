@@ -23,5 +23,6 @@ pub mod MapLaws
 mod FrontExamples
 pub mod NoEntries
 pub mod RunMapLaws
+pub mod OutcomeLaws
 pub mod Examples
 pub mod ListExamples

@@ -4,7 +4,7 @@ use Rattle.std.specs.FinMap.{get}
 use Rattle.aide_db.specs.Map.{database_of}
 use Rattle.aide_db.specs.declared.limits.Limits.{Limits}
 use Rattle.aide_db.specs.declared.side.Side.TheVariants.{Old, New}
-use Rattle.aide_report.specs.Runs.{report_over}
+use Rattle.aide_merge.specs.Outcomes.{outcome_over}
 use Rattle.aide_merge.specs.Seen.{SinkSeen}
 use Rattle.aide_merge.specs.declared.outcome.Outcome.{Outcome}
 use Rattle.aide_line_run.specs.Lines.{lines_of_texts}
@@ -35,11 +35,11 @@ a_trusted_run_says_all limits list p q o s old new trusted_old trusted_new gives
     let lines = lines_of_texts list p.asked q.asked old new trusted_old trusted_new in
     let ends =
     run.over (Some old) (Some new) (Some trusted_old) (Some trusted_new) gives trusted_gives (Ok lines) (record {
-      compared = Ok (report_over p.asked old new);
-      trusted = Ok (report_over q.asked trusted_old trusted_new);
-      compared_runs = (Ok (report_over p.asked old new), (old_sound, new_sound, refl), refl);
+      compared = Ok (outcome_over p.asked.options old new);
+      trusted = Ok (outcome_over q.asked.options trusted_old trusted_new);
+      compared_runs = (Ok (outcome_over p.asked.options old new), (old_sound, new_sound, refl), refl);
       trusted_runs = (
-        Ok (report_over q.asked trusted_old trusted_new),
+        Ok (outcome_over q.asked.options trusted_old trusted_new),
         (run.trusted_sound Old trusted_old trusted_gives.0, run.trusted_sound New trusted_new trusted_gives.1, refl),
         refl,
       );

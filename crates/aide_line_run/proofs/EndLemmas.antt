@@ -17,7 +17,6 @@ use Rattle.aide_line_run.specs.ChangeLines.{change_lines}
 use Rattle.aide_merge.specs.Said.{PathChange}
 use Rattle.aide_line_run.specs.LineCounts.{line_counts}
 use Rattle.aide_line_run.specs.LineCounts.{line_outcome}
-use Rattle.aide_report.specs.Runs.{report_over}
 use Rattle.aide_merge.specs.Seen.{Seen}
 use Rattle.aide_merge.specs.code.Merging.{pass_of}
 use Rattle.aide_line_run.specs.code.LineTally.{tally}
@@ -227,7 +226,7 @@ module _ {R : Type 0} {r : Reels R} {limits : Limits} {a b s t : Seen} {m : Merg
 
         pub outcome_is : (lines_of_texts list wish trusted_wish old new trusted_old trusted_new).outcome
             ≡ line_outcome found.counts found.compared.skipped_old found.compared.skipped_new
-        unfolding lines_of_texts report_over
+        unfolding lines_of_texts
         outcome_is =
             let is = texts_read old new (compared_read told.read) told_old told_new in
             sym (λ i. line_outcome (counted i) (is.skipped_old i) (is.skipped_new i))

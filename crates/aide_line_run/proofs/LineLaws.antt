@@ -1,12 +1,11 @@
 -- What ties the lines to the report of the same task, and that there are as many lines of changes as are counted.
-use Rattle.std.proofs.Common.{◌≡◌, ◌∙◌, ℕ, Bool, true, false, List, refl, sym, ap, length}
+use Rattle.std.proofs.Common.{◌≡◌, ◌∙◌, Bool, true, false, refl, sym, ap, length}
 use Rattle.std.specs.Prelude.{◌||◌}
 use Rattle.std.proofs.lemmas.List.Sums.{length-filter}
 use Rattle.aide_conf.specs.declared.options.Options.{Options}
 use Rattle.aide_db.specs.Map.{Database}
 use Rattle.aide_entry.specs.Path.{path_cmp}
 use Rattle.aide_entry.proofs.PathLaws.{path_cmp_total, path_cmp-IsAntisymmetric}
-use Rattle.aide_merge.specs.Asked.{Asked}
 use Rattle.aide_line_run.specs.ChangeLines.{Accounts, listed_changes, widest}
 use Rattle.aide_merge.specs.Changed.{differ_by}
 use Rattle.aide_merge.specs.Changes.{is_added, is_removed, is_changed}
@@ -15,7 +14,6 @@ use Rattle.aide_merge.specs.Said.{PathChange}
 use Rattle.aide_line_run.specs.LineCounts.{account_count, entry_count, is_left_out, is_line_with}
 use Rattle.aide_line_run.specs.LineCounts.{is_old, is_other, is_trusted}
 use Rattle.aide_line_run.specs.LineCounts.{line_counts}
-use Rattle.aide_report.specs.Runs.{report_over}
 use Rattle.aide_merge.specs.Said.{all_listed, is_in}
 use Rattle.aide_text.specs.Section.{contents_of, row, row_of}
 use Rattle.aide_text.specs.declared.section.Section.TheVariants.{AddedEntries, RemovedEntries, ChangedEntries, AllEntries}
@@ -51,21 +49,13 @@ module _ (options : Options) (account : Accounts) (old new : Database) where
   each_line_is_accounted =
       sym (ap account_count tally_is) ∙ tally_accounted options account (changes old new) ∙ ap entry_count tally_is
 
--- the task, with the level at which a report shows most
-abbrev pub at_widest : Asked → Asked
-at_widest wish = record wish { options = widest wish.options }
-
--- The outcome is that of the report at that level, and so are the status and the counts.
-pub outcome_is_that_of_the_widest_report : (wish : Asked) (old new : List ℕ)
-    → (report_over wish old new).outcome ≡ (report_over (at_widest wish) old new).outcome
-unfolding report_over
-outcome_is_that_of_the_widest_report wish old new = refl
+-- ---- which paths have a line
 
 or_nothing : (b : Bool) → b ≡ (b || false)
 or_nothing true = refl
 or_nothing false = refl
 
--- A path has a line exactly if the list of added, of removed or of changed entries of that report has it.
+-- A path has a line exactly if the list of added, of removed or of changed entries has it of the report that shows most.
 pub lines_are_of_listed_entries : (options : Options) (change : PathChange) → is_in options all_listed change
     ≡ (is_in (widest options) (contents_of AddedEntries) change
     || (is_in (widest options) (contents_of RemovedEntries) change || is_in (widest options) (contents_of ChangedEntries) change))

@@ -1,6 +1,6 @@
 -- How a run that reads each database once comes to its promise.
 use Rattle.std.proofs.Common.{◌≡◌, ◌∙◌, ◌<◌, ◌≤◌, ℕ, List, Option, ap, subst, sym, arith, inl, inr}
-use Rattle.std.specs.Prelude.{true, false, Some, Ok}
+use Rattle.std.specs.Prelude.{true, false, Ok}
 use Rattle.aide_db.specs.Database.{IsSound}
 use Rattle.aide_db.specs.DeskView.{DeskView}
 use Rattle.aide_db.specs.declared.fault.DbFault.{DbFault}
@@ -10,28 +10,24 @@ use Rattle.aide_db.specs.declared.side.Side.{Side}
 use Rattle.aide_db.specs.declared.side.Side.TheVariants.{Old, New}
 use Rattle.aide_db.specs.declared.stage.Stage.TheVariants.{Ended as AtEnd}
 use Rattle.aide_merge.specs.Bound.{FitsAfterBoth}
-use Rattle.aide_merge.specs.RightAnswer.{IsHindered, IsOfReliable}
-use Rattle.aide_merge.specs.Openings.{IsNotGiven, IsRefusedThere, OpensExactly}
-use Rattle.aide_merge.specs.Room.{IsNotOfMemory}
-use Rattle.aide_merge.specs.RunFaults.{IsCaused, IsFirst}
+use Rattle.aide_merge.specs.Openings.{OpensExactly}
+use Rattle.aide_merge.specs.RunFaults.{IsFirst}
 use Rattle.aide_merge.specs.Seen.{KeepsSources, Seen}
 use Rattle.aide_merge.specs.Standing.{IsFaultOf}
 use Rattle.aide_merge.specs.code.MergeCalls.{IsMergeFault, IsOpened, KeepsMerge}
 use Rattle.aide_merge.specs.code.Merging.{IsEnded, StandsAt, cursor_at, limits_at, reels_failed}
 use Rattle.aide_merge.specs.code.BothRead.{AreReadAt, AreRead}
-use Rattle.aide_line_run.specs.code.OneReading.{IsFirstOfBoth, IsReadFault, Reads}
+use Rattle.aide_line_run.specs.code.OneReading.{IsFirstOfBoth, IsOneReadingFault, Reads}
+use Rattle.aide_merge.specs.code.ReadFaults.{IsReadFault, IsReadingFault}
 use Rattle.aide_merge.specs.code.Settling.{IsSettled, IsStopped}
 use Rattle.aide_merge.specs.declared.readings.Readings.{Readings}
 use Rattle.aide_merge.specs.code.Desks.{KeepsDesk}
 use Rattle.aide_merge.specs.declared.merge.Merge.{Merge}
 use Rattle.aide_merge.specs.declared.run_fault.RunFault.{RunFault}
-use Rattle.aide_merge.specs.declared.run_fault.RunFault.TheVariants.{Open, Database, Changed, Write}
+use Rattle.aide_merge.specs.declared.run_fault.RunFault.TheVariants.{Database, Write}
 use Rattle.aide_text.specs.Failures.{Rose}
-use Rattle.aide_report.proofs.FaultLemmas.{answer_new, answer_old}
-use Rattle.aide_merge.proofs.FaultLemmas.{none_failed, right_first, rose_since}
-use Rattle.aide_report.proofs.MissingLemmas.{first_over, second_over}
-use Rattle.aide_merge.proofs.AnswerLemmas.{hindered_by, stops_by, stops_hindered}
-use Rattle.aide_merge.proofs.PenLemmas.{caused_as}
+use Rattle.aide_merge.proofs.FaultLemmas.{none_failed, rose_since}
+use Rattle.aide_merge.proofs.ReadFaultLemmas.{fault_as, fault_of_new, fault_of_old}
 use Rattle.aide_merge.proofs.RoomLemmas.{still_fits}
 use Rattle.aide_merge.proofs.StandingLemmas.{ended_at}
 
@@ -74,66 +70,28 @@ settled_first {r = r} {m = m} {k = k} {n = n} {d = d} {e = e} {first = first} p 
 
 -- ---- a fault
 
--- of the old side
-pub fault_of_old : {limits : Limits} {a b : Seen} {room : ℕ} {sink : Type 0} {fault : RunFault} → IsFirst limits a.bytes_of Old fault
-    → IsRefusedThere a.openings b.openings fault → IsNotGiven b.was_given fault
-    → IsCaused (Rose a.failures b.failures) ⊥ fault → (a.is_missing Old ≡ true → fault ≡ Open Old)
-    → (a.is_reliable ≡ true → IsOfReliable a.bytes_of fault) → (limits.line ≤ room → IsNotOfMemory fault)
-    → IsReadFault limits a b room sink fault
-fault_of_old {limits} {a} {b} {room} {sink} {fault} first refused not_given caused missing reliable memory =
-    let sources = Rose a.failures b.failures in
-    record {
-      right = right_first limits a.bytes_of Old fault first;
-      unchanged = λ side is. subst (λ (f : RunFault). IsFirst limits a.bytes_of Old f) is first;
-      first = λ wish. answer_old limits wish a.bytes_of fault first;
-      over = λ wish old new told_old told_new r runs.
-          stops_by r (IsHindered old new sources ⊥) (IsHindered old new sources sink) fault (hindered_by old new sources sink fault)
-          (first_over limits wish a.bytes_of a.is_missing old new sources fault told_old first caused missing r runs);
-      refused = refused;
-      not_given = not_given;
-      caused = caused_as sources ⊥ sink fault (λ none. absurd none) caused;
-      reliable = reliable;
-      memory = memory;
-    }
-
--- of the new side, behind an old one that is sound
-pub fault_of_new : {limits : Limits} {a b : Seen} {room : ℕ} {sink : Type 0} {fault : RunFault}
-    → ((text : List ℕ) → a.bytes_of Old ≡ Some text → IsSound limits text) → a.is_missing Old ≡ false
-    → IsFirst limits a.bytes_of New fault
-    → IsRefusedThere a.openings b.openings fault → IsNotGiven b.was_given fault
-    → IsCaused (Rose a.failures b.failures) ⊥ fault → (a.is_missing New ≡ true → fault ≡ Open New)
-    → (a.is_reliable ≡ true → IsOfReliable a.bytes_of fault) → (limits.line ≤ room → IsNotOfMemory fault)
-    → IsReadFault limits a b room sink fault
-fault_of_new {limits} {a} {b} {room} {sink} {fault} sound there first refused not_given caused missing reliable memory =
-    let sources = Rose a.failures b.failures in
-    record {
-      right = right_first limits a.bytes_of New fault first;
-      unchanged = λ side is. subst (λ (f : RunFault). IsFirst limits a.bytes_of New f) is first;
-      first = λ wish. answer_new limits wish a.bytes_of fault sound first;
-      over = λ wish old new told_old told_new r runs.
-          stops_by r (IsHindered old new sources ⊥) (IsHindered old new sources sink) fault (hindered_by old new sources sink fault)
-          (second_over limits wish a.bytes_of a.is_missing old new sources fault told_old told_new there sound first caused missing r runs);
-      refused = refused;
-      not_given = not_given;
-      caused = caused_as sources ⊥ sink fault (λ none. absurd none) caused;
-      reliable = reliable;
-      memory = memory;
-    }
+-- of a first reading: it calls no side changed
+pub read_once : {limits : Limits} {a b : Seen} {room : ℕ} {sink : Type 0} {fault : RunFault} (side : Side)
+    → IsFirst limits a.bytes_of side fault → IsReadFault limits a b room sink fault → IsOneReadingFault limits a b room sink fault
+read_once {limits} {a} side first read = record {
+  read = read;
+  unchanged = λ other is. subst (λ (f : RunFault). IsFirst limits a.bytes_of side f) is first;
+}
 
 -- of writing
 pub fault_of_write : (limits : Limits) (a b : Seen) (room : ℕ) {sink : Type 0} (written : ℕ) → sink
-    → IsReadFault limits a b room sink (Write written)
-fault_of_write limits a b room {sink} written holds = record {
-  right = tt;
+    → IsOneReadingFault limits a b room sink (Write written)
+fault_of_write limits a b room written holds = record {
+  read = record {
+    right = tt;
+    over = λ old new told_old told_new. inr holds;
+    refused = tt;
+    not_given = tt;
+    caused = holds;
+    reliable = λ reliable. tt;
+    memory = λ le. tt;
+  };
   unchanged = λ side is. cc;
-  first = λ wish. tt;
-  over = λ wish old new told_old told_new r runs. stops_hindered r (IsHindered old new (Rose a.failures b.failures) sink) (Write written)
-      holds;
-  refused = tt;
-  not_given = tt;
-  caused = holds;
-  reliable = λ reliable. tt;
-  memory = λ le. tt;
 }
 
 -- ---- the reading of both sides
@@ -141,32 +99,10 @@ fault_of_write limits a b room {sink} written holds = record {
 opens_kept : {a b c : Side → ℕ} → c ≡ b → OpensExactly a b 1 → OpensExactly a c 1
 opens_kept {a} {b} {c} same opens = subst (λ (new : Side → ℕ). OpensExactly a new 1) (sym same) opens
 
-hindered_as : (old new : Option (List ℕ)) (sources sink next : Type 0) (fault : RunFault) → (sink → next)
-    → IsHindered old new sources sink fault → IsHindered old new sources next fault
-hindered_as old new sources sink next (Open side) f h = h
-hindered_as old new sources sink next (Database fault) f h = h
-hindered_as old new sources sink next (Changed side) f h = h
-hindered_as old new sources sink next (Write written) f h = f h
-
 -- another answer
-pub fault_as : {limits : Limits} {a b : Seen} {room : ℕ} {sink next : Type 0} {fault : RunFault} → (sink → next)
-    → IsReadFault limits a b room sink fault → IsReadFault limits a b room next fault
-fault_as {a = a} {b = b} {sink = sink} {next = next} {fault = fault} f p =
-    let sources = Rose a.failures b.failures in
-    record {
-      right = p.right;
-      unchanged = p.unchanged;
-      first = p.first;
-      over = λ wish old new told_old told_new r runs.
-          stops_by r (IsHindered old new sources sink) (IsHindered old new sources next) fault
-          (hindered_as old new sources sink next fault f)
-          (p.over wish old new told_old told_new r runs);
-      refused = p.refused;
-      not_given = p.not_given;
-      caused = caused_as sources sink next fault f p.caused;
-      reliable = p.reliable;
-      memory = p.memory;
-    }
+pub once_as : {limits : Limits} {a b : Seen} {room : ℕ} {sink next : Type 0} {fault : RunFault} → (sink → next)
+    → IsOneReadingFault limits a b room sink fault → IsOneReadingFault limits a b room next fault
+once_as f is = record { read = fault_as f is.read; unchanged = is.unchanged }
 
 pub reads_same : {T U : Type 0} {limits : Limits} {a b : Seen} {d e : DeskView} {sink next : Type 0} {answer : T} {done : U}
     → Reads limits a b d e sink (Ok answer) → Reads limits a b d e next (Ok done)
@@ -186,30 +122,29 @@ desk_read p opened room fits = record {
 module _ {R : Type 0} {r : Reels R} {limits : Limits} {a b c : Seen} {e : DeskView} {m n : Merge R} {sink : Type 0} {before : ℕ}
     (sources : KeepsSources a b) (closes : KeepsSources b c) (there : (side : Side) → a.is_missing side ≡ false)
     (opened : IsOpened r limits a.bytes_of m e) (room : e.room ≡ before) where
+  read_at : (side : Side) (fault : DbFault) → fault.side ≡ side → IsFirstOfBoth r m n e fault
+      → IsReadingFault limits a c side before (Database fault) → IsReadFault limits a c before sink (Database fault)
+  read_at Old fault at is reading = fault_of_old tt reading
+  read_at New fault at is reading = fault_of_new (λ text told. subst (λ (l : Limits). IsSound l text) (opened.limits_of Old)
+      (is.behind at text (opened.stands Old text told))) (there Old) tt reading
+
   pub stops_at : (side : Side) (fault : DbFault) → fault.side ≡ side
       → (0 < reels_failed r.failures n → Rose b.failures c.failures) → (b.is_reliable ≡ true → reels_failed r.failures n ≡ 0)
-      → IsFirstOfBoth r m n e fault → IsReadFault limits a c before sink (Database fault)
-  stops_at Old fault at rose unfailed is =
-      fault_of_old (
-        at,
-        λ text told. subst (λ (l : Limits). IsFaultOf l text fault) (opened.limits_of fault.side)
-            (is.first text (opened.stands fault.side text (ap a.bytes_of at ∙ told))),
-      ) tt tt
-      (λ read. rose_since a.failures b.failures c.failures sources.never_falls (rose (is.read read)))
-      (λ gone. absurd (true_false (sym gone ∙ there Old)))
-      (λ reliable read. none_failed (reels_failed r.failures n) (unfailed (sources.reliable_same ∙ reliable)) (is.read read))
-      (λ le. is.memory (λ side. still_fits limits (limits_at m side) before e.room (opened.limits_of side) room le))
-  stops_at New fault at rose unfailed is =
-      fault_of_new (λ text told. subst (λ (l : Limits). IsSound l text) (opened.limits_of Old)
-      (is.behind at text (opened.stands Old text told))) (there Old) (
-        at,
-        λ text told. subst (λ (l : Limits). IsFaultOf l text fault) (opened.limits_of fault.side)
-            (is.first text (opened.stands fault.side text (ap a.bytes_of at ∙ told))),
-      ) tt tt
-      (λ read. rose_since a.failures b.failures c.failures sources.never_falls (rose (is.read read)))
-      (λ gone. absurd (true_false (sym gone ∙ there New)))
-      (λ reliable read. none_failed (reels_failed r.failures n) (unfailed (sources.reliable_same ∙ reliable)) (is.read read))
-      (λ le. is.memory (λ side. still_fits limits (limits_at m side) before e.room (opened.limits_of side) room le))
+      → IsFirstOfBoth r m n e fault → IsOneReadingFault limits a c before sink (Database fault)
+  stops_at side fault at rose unfailed is =
+      let reading : IsReadingFault limits a c side before (Database fault) = record {
+        first = (
+          at,
+          λ text told. subst (λ (l : Limits). IsFaultOf l text fault) (opened.limits_of fault.side)
+              (is.first text (opened.stands fault.side text (ap a.bytes_of at ∙ told))),
+        );
+        not_given = tt;
+        caused = λ read. rose_since a.failures b.failures c.failures sources.never_falls (rose (is.read read));
+        missing = λ gone. absurd (true_false (sym gone ∙ there side));
+        reliable = λ reliable read. none_failed (reels_failed r.failures n) (unfailed (sources.reliable_same ∙ reliable)) (is.read read);
+        memory = λ le. is.memory (λ side. still_fits limits (limits_at m side) before e.room (opened.limits_of side) room le);
+      } in
+      read_once side reading.first (read_at side fault at is reading)
 
 pub rose_more : (before middle after : ℕ) → Rose before middle → middle ≤ after → Rose before after
 rose_more before middle after rose le below = let risen = rose (omega (arith, le, below)) in omega (arith, le, risen)

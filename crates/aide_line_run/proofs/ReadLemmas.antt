@@ -13,20 +13,21 @@ use Rattle.aide_merge.specs.Bound.{FitsAfterBoth}
 use Rattle.aide_merge.specs.RightAnswer.{IsHindered}
 use Rattle.aide_merge.specs.Openings.{OpensAtMost, OpensExactly}
 use Rattle.aide_merge.specs.RightAnswer.{Report}
-use Rattle.aide_report.specs.Runs.{report_over}
+use Rattle.aide_merge.specs.Outcomes.{outcome_over}
 use Rattle.aide_merge.specs.Seen.{KeepsSources, Seen}
 use Rattle.aide_merge.specs.code.MergeCalls.{IsOpened}
 use Rattle.aide_merge.specs.code.Merging.{reels_failed}
-use Rattle.aide_line_run.specs.code.OneReading.{IsFirstOfBoth, IsReadFault, Reads}
+use Rattle.aide_line_run.specs.code.OneReading.{IsFirstOfBoth, IsOneReadingFault, Reads}
 use Rattle.aide_merge.specs.code.Desks.{KeepsDesk}
 use Rattle.aide_merge.specs.code.Desks.{ClearsDesk}
 use Rattle.aide_merge.specs.declared.merge.Merge.{Merge}
 use Rattle.aide_merge.specs.declared.run_fault.RunFault.{RunFault}
 use Rattle.aide_merge.specs.declared.run_fault.RunFault.TheVariants.{Open, Database, Changed, Write}
 use Rattle.aide_merge.proofs.BoundLemmas.{fits_limit, fits_within}
-use Rattle.aide_report.proofs.FaultLemmas.{cause_by}
+use Rattle.aide_merge.proofs.RightAnswers.{stops_for}
+use Rattle.aide_merge.proofs.ReadFaultLemmas.{cause_by}
 use Rattle.aide_line_run.proofs.StopLemmas.{comes_of}
-use Rattle.aide_line_run.proofs.OneReadingLemmas.{desk_read, fault_as, fault_of_write, stops_at}
+use Rattle.aide_line_run.proofs.OneReadingLemmas.{desk_read, fault_of_write, once_as, stops_at}
 use Rattle.aide_merge.proofs.KeepLemmas.{desk_then, sources_then}
 use Rattle.aide_merge.proofs.KeepLemmas.{clears_then}
 use Rattle.aide_line_run.specs.RunEnds.{IsFaultOfPair, LeavesPair, RunsLines, StopsForPair, over_sides}
@@ -94,7 +95,7 @@ sound_there there opened sound = record {
 pub first_read : {R : Type 0} {r : Reels R} {limits : Limits} {a b c : Seen} {e : DeskView} {m n : Merge R} {sink : Type 0} {room : ℕ}
     (first : DbFault) → KeepsSources a b → AreOpened r limits a b e m → e.room ≡ room → KeepsSources b c
     → (0 < reels_failed r.failures n → Rose b.failures c.failures) → (b.is_reliable ≡ true → reels_failed r.failures n ≡ 0)
-    → IsFirstOfBoth r m n e first → IsReadFault limits a c room sink (Database first)
+    → IsFirstOfBoth r m n e first → IsOneReadingFault limits a c room sink (Database first)
 first_read first sources p room closes rose unfailed is =
     stops_at sources closes p.there p.opened room first.side first refl rose unfailed is
 
@@ -122,24 +123,24 @@ module _ {R : Type 0} {r : Reels R} {limits : Limits} {a b c s t w : Seen} {e v 
 
 -- the fault of one pair, for people
 fault_of_pair : {limits : Limits} {a b : Seen} {d f : DeskView} {room : ℕ} {sink : Type 0} (wish : Asked) (fault : RunFault)
-    → room ≡ d.room → IsReadFault limits a b room sink fault → IsFaultOfPair limits (pair_seen wish a b d f) sink fault
+    → room ≡ d.room → IsOneReadingFault limits a b room sink fault → IsFaultOfPair limits (pair_seen wish a b d f) sink fault
 fault_of_pair {limits} {a} {b} {sink = sink} wish fault kept is =
-    let sources = Rose a.failures b.failures in
+    let read = is.read in
     record {
-      right = is.right;
-      cause = comes_of sources sink fault _ _ is.unchanged
-          (cause_by limits wish (report_over wish) a.bytes_of sources sink fault is.caused (is.first wish) is.right);
-      refused = is.refused;
-      not_given = is.not_given;
-      reliable = is.reliable;
-      memory = λ le. is.memory (subst (λ room. limits.line ≤ room) (sym kept) le);
+      right = read.right;
+      cause = comes_of (Rose a.failures b.failures) sink fault _ _ is.unchanged
+          (cause_by (outcome_over wish.options) fault read);
+      refused = read.refused;
+      not_given = read.not_given;
+      reliable = read.reliable;
+      memory = λ le. read.memory (subst (λ room. limits.line ≤ room) (sym kept) le);
     }
 
 module _ (limits : Limits) (a b s t : Seen) (room trusted_room : ℕ) (sink : Type 0) where
   -- another sink
   pub four_as : (next : Type 0) (fault : PairFault) → (sink → next)
       → IsFaultOfFour limits a b room sink s t trusted_room fault → IsFaultOfFour limits a b room next s t trusted_room fault
-  four_as next (Compared fault) f is = fault_as f is
+  four_as next (Compared fault) f is = once_as f is
   four_as next (Trusted fault) f is = is
 
   -- the compared texts are sound before a fault of the trusted pair
@@ -164,10 +165,14 @@ module _ (limits : Limits) (a b s t : Seen) (room trusted_room : ℕ) (sink : Ty
     stops_over (Compared fault) is old new trusted_old trusted_new told trusted_told r runs =
         stops_compared runs.compared runs.trusted (over_sides (lines_of_texts list wish trusted_wish) old new trusted_old trusted_new) r
         (IsHindered old new (Rose a.failures b.failures) sink) (IsHindered trusted_old trusted_new (Rose s.failures t.failures) ⊥)
-        fault runs.answer (is.over wish old new told.0 told.1 runs.compared runs.compared_runs)
+        fault runs.answer (stops_for limits (outcome_over wish.options) old new (IsHindered old new (Rose a.failures b.failures) sink) fault
+        (is.read.over old new told.0 told.1) runs.compared runs.compared_runs)
     stops_over (Trusted fault) is old new trusted_old trusted_new told trusted_told r runs =
         stops_trusted runs.compared runs.trusted (over_sides (lines_of_texts list wish trusted_wish) old new trusted_old trusted_new) r
         (IsHindered old new (Rose a.failures b.failures) sink) (IsHindered trusted_old trusted_new (Rose s.failures t.failures) ⊥)
         fault runs.answer
-        (okay_over limits wish a.bytes_of a.is_missing old new told.0 told.1 is.1.there is.1.sound runs.compared runs.compared_runs)
-        (is.0.over trusted_wish trusted_old trusted_new trusted_told.0 trusted_told.1 runs.trusted runs.trusted_runs)
+        (okay_over limits (outcome_over wish.options) a.bytes_of a.is_missing old new told.0 told.1 is.1.there is.1.sound
+        runs.compared runs.compared_runs)
+        (stops_for limits (outcome_over trusted_wish.options) trusted_old trusted_new
+        (IsHindered trusted_old trusted_new (Rose s.failures t.failures) ⊥) fault
+        (is.0.read.over trusted_old trusted_new trusted_told.0 trusted_told.1) runs.trusted runs.trusted_runs)

@@ -60,12 +60,12 @@ none_unopened bytes (Write written) = tt
 module _ (limits : Limits) (a b s t : Seen) (room trusted_room : ℕ) where
   nothing_written : (bytes : Option (List ℕ)) (fault : PairFault) → IsFaultOfFour limits a b room ⊥ s t trusted_room fault
       → OfCompared (HasWrittenIfAny bytes bytes) fault
-  nothing_written bytes (Compared fault) is = no_write (Rose a.failures b.failures) bytes fault is.caused
+  nothing_written bytes (Compared fault) is = no_write (Rose a.failures b.failures) bytes fault is.read.caused
   nothing_written bytes (Trusted fault) is = tt
 
   nothing_failed : (n : ℕ) (fault : PairFault) → IsFaultOfFour limits a b room ⊥ s t trusted_room fault
       → CountsPairWrites {X = Outcome} n n (Err fault)
-  nothing_failed n (Compared fault) is = no_failed_write (Rose a.failures b.failures) n fault is.caused
+  nothing_failed n (Compared fault) is = no_failed_write (Rose a.failures b.failures) n fault is.read.caused
   nothing_failed n (Trusted fault) is = refl
 
 nothing_unopened : (bytes : Option (List ℕ)) (fault : PairFault) → OfEach (KeepsUnopened bytes bytes) (KeepsUnopened bytes bytes) fault

@@ -8,8 +8,8 @@ use Rattle.aide_db.specs.declared.reel.Reel.{Ghosts as Reels}
 use Rattle.aide_db.specs.declared.side.Side.TheVariants.{Old, New}
 use Rattle.aide_merge.specs.Asked.{Asked}
 use Rattle.aide_line_run.specs.LineCounts.{line_outcome}
-use Rattle.aide_merge.specs.RightAnswer.{TellsSide}
-use Rattle.aide_merge.specs.RightAnswer.{Report}
+use Rattle.aide_merge.specs.Outcomes.{outcome_over}
+use Rattle.aide_merge.specs.RightAnswer.{Report, TellsSide}
 use Rattle.aide_merge.specs.Seen.{Seen}
 use Rattle.aide_merge.specs.declared.outcome.Outcome.{Outcome}
 use Rattle.aide_merge.specs.declared.run_fault.RunFault.{RunFault}
@@ -24,11 +24,11 @@ use Rattle.aide_line_run.specs.declared.write.PairsFound.{PairsFound}
 use Rattle.aide_line_run.proofs.PairLemmas.{IsOkay, okay_over}
 use Rattle.aide_line_run.proofs.EndLemmas.{all_sound, compared_read, outcome_is, told_is, trusted_read, true_false}
 
-okay_answer : (compared trusted : Result Report RunFault) (whole : Report) (r : Result Report PairFault) → IsOkay compared → IsOkay trusted
+okay_answer : (compared trusted : Result Outcome RunFault) (whole : Report) (r : Result Report PairFault) → IsOkay compared → IsOkay trusted
     → answer_by compared trusted (Some whole) r → r ≡ Ok whole
 okay_answer (Err fault) trusted whole r okay other is = absurd okay
-okay_answer (Ok report) (Err fault) whole r okay other is = absurd other
-okay_answer (Ok report) (Ok second) whole r okay other is = is
+okay_answer (Ok outcome) (Err fault) whole r okay other is = absurd other
+okay_answer (Ok outcome) (Ok second) whole r okay other is = is
 
 whole_as : (r : Result Report PairFault) (whole : Report) (outcome : Outcome) (before after : Option (List ℕ)) → r ≡ Ok whole
     → (whole.outcome ≡ outcome) × Appends before after whole.text → SendsWholeOf r outcome before after
@@ -61,10 +61,10 @@ ends_whole {limits = limits} {a = a} {s = s} p q list wish trusted_wish before a
     told.read in
     whole_as r (lines_of_texts list wish trusted_wish old new trusted_old trusted_new) _ before after
     (okay_answer runs.compared runs.trusted (lines_of_texts list wish trusted_wish old new trusted_old trusted_new) r
-    (okay_over limits wish a.bytes_of a.is_missing (Some old) (Some new) tells.0 tells.1 read.there read.sound runs.compared
-    runs.compared_runs)
-    (okay_over limits trusted_wish s.bytes_of s.is_missing (Some trusted_old) (Some trusted_new) trusted_tells.0 trusted_tells.1
-    trusted_read.there trusted_read.sound runs.trusted runs.trusted_runs)
+    (okay_over limits (outcome_over wish.options) a.bytes_of a.is_missing (Some old) (Some new) tells.0 tells.1
+    read.there read.sound runs.compared runs.compared_runs)
+    (okay_over limits (outcome_over trusted_wish.options) s.bytes_of s.is_missing (Some trusted_old) (Some trusted_new)
+    trusted_tells.0 trusted_tells.1 trusted_read.there trusted_read.sound runs.trusted runs.trusted_runs)
     runs.answer) (
       outcome_is p q list wish trusted_wish old new trusted_old trusted_new tells.0 tells.1 trusted_tells.0 trusted_tells.1 sound told,
       subst (λ text. Appends before after text)

@@ -18,7 +18,7 @@ use Rattle.aide_merge.specs.Said.{PathChange}
 use Rattle.aide_line_run.specs.LineCounts.{account_count, entry_count, line_counts, line_outcome}
 use Rattle.aide_line_run.specs.LineCounts.{status_by}
 use Rattle.aide_merge.specs.RightAnswer.{Report}
-use Rattle.aide_report.specs.Runs.{report_over}
+use Rattle.aide_merge.specs.Outcomes.{outcome_over}
 use Rattle.aide_merge.specs.declared.outcome.Outcome.{Outcome}
 use Rattle.aide_text.specs.Sent.{SendsPart}
 use Rattle.aide_line_run.specs.Listed.{Leaves, ListRead, account_by, leaves_between}
@@ -88,7 +88,7 @@ unfoldable pub lines_of_texts : ListRead → (asked trusted : Asked)
 lines_of_texts list asked trusted old new trusted_old trusted_new = record {
   text = lines_of_pairs list asked trusted (facts_of_texts old new trusted_old trusted_new)
       (by_texts list old new trusted_old trusted_new) (database_of old) (database_of new);
-  outcome = (report_over asked old new).outcome;
+  outcome = outcome_over asked.options old new;
 }
 
 -- A beginning of the first line and the lines of these changes has been written, with an account or none for each

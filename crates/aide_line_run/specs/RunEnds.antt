@@ -14,13 +14,12 @@ use Rattle.aide_merge.specs.Bound.{three_lines}
 use Rattle.aide_merge.specs.Compare.{changes}
 use Rattle.aide_merge.specs.Said.{PathChange}
 use Rattle.aide_line_run.specs.Stops.{ComesOf}
+use Rattle.aide_merge.specs.Outcomes.{outcome_over}
 use Rattle.aide_merge.specs.RightAnswer.{IsOfReliable}
-use Rattle.aide_report.specs.Missing.{RunsOver}
 use Rattle.aide_merge.specs.Openings.{IsNotGiven, IsRefusedThere, OpensAtMost}
 use Rattle.aide_merge.specs.Room.{IsNotOfMemory}
 use Rattle.aide_merge.specs.RunFaults.{IsRight}
-use Rattle.aide_merge.specs.RightAnswer.{Report, RunsBy}
-use Rattle.aide_report.specs.Runs.{report_over}
+use Rattle.aide_merge.specs.RightAnswer.{Report, RunsBy, RunsOverBy}
 use Rattle.aide_merge.specs.Merged.{merged}
 use Rattle.aide_merge.specs.declared.outcome.Outcome.{Outcome}
 use Rattle.aide_merge.specs.declared.run_fault.RunFault.{RunFault}
@@ -45,24 +44,25 @@ over_sides over (Some old) (Some new) (Some trusted_old) (Some trusted_new) =
     Some (over old new trusted_old trusted_new)
 over_sides over _ _ _ _ = None
 
--- The answer, by the answers over both pairs: the fault of the compared pair comes before one of the trusted pair. If
--- neither pair has a fault, the answer is what is to be written.
-abbrev pub answer_by : (compared trusted : Result Report RunFault) → Option Report
+-- The answer, by the answers over both pairs, an outcome or a fault each: the fault of the compared pair comes before
+-- one of the trusted pair. If neither pair has a fault, the answer is what is to be written.
+abbrev pub answer_by : (compared trusted : Result Outcome RunFault) → Option Report
     → Result Report PairFault
     → Type 0
 answer_by (Err fault) trusted over r = r ≡ Err (Compared fault)
-answer_by (Ok report) (Err fault) over r = r ≡ Err (Trusted fault)
-answer_by (Ok report) (Ok other) None r = ⊥
-answer_by (Ok report) (Ok other) (Some over) r = r ≡ Ok over
+answer_by (Ok outcome) (Err fault) over r = r ≡ Err (Trusted fault)
+answer_by (Ok outcome) (Ok other) None r = ⊥
+answer_by (Ok outcome) (Ok other) (Some over) r = r ≡ Ok over
 
 -- The right answer, by what is at all four sides.
 pub record RunsLines (limits : Limits) (list : ListRead) (asked trusted_asked : Asked)
     (old new trusted_old trusted_new : Option (List ℕ))
     (r : Result Report PairFault) : Type 0 where
-  pub compared : Result Report RunFault
-  pub trusted : Result Report RunFault
-  pub compared_runs : RunsOver limits asked old new compared
-  pub trusted_runs : RunsOver limits trusted_asked trusted_old trusted_new trusted
+  pub compared : Result Outcome RunFault
+  pub trusted : Result Outcome RunFault
+  pub compared_runs : RunsOverBy limits (outcome_over asked.options) old new compared
+  pub trusted_runs : RunsOverBy limits (outcome_over trusted_asked.options)
+      trusted_old trusted_new trusted
   pub answer : answer_by compared trusted
       (over_sides (lines_of_texts list asked trusted_asked) old new trusted_old trusted_new) r
 
@@ -157,7 +157,7 @@ pub record LeavesPair (limits : Limits) (p : PairSeen) : Type 0 where
 abbrev pub IsAnswerOver : Limits → PairSeen → DbFault → Type 0
 IsAnswerOver limits p fault = (old new : List ℕ) → p.before.bytes_of Old ≡ Some old
     → p.before.bytes_of New ≡ Some new
-    → (r : Result Report DbFault) → RunsBy limits (report_over p.asked) old new r
+    → (r : Result Outcome DbFault) → RunsBy limits (outcome_over p.asked.options) old new r
     → r ≡ Err fault
 
 -- What a fault of a pair means: the same as in a run over only this pair.

@@ -37,7 +37,7 @@ pub struct TrustedPair<'a, S: Sources, A: Allocator + Copy> {
 ///   report.
 /// - After a fault other than a failed write the last line has not been written.
 /// - The first fault counts, in the order old, new, trusted old, trusted new. What comes before it is read to its end.
-///   No fault is [`RunFault::Changed`](aide_report::RunFault::Changed).
+///   No fault is [`RunFault::Changed`](aide_merge::RunFault::Changed).
 ///
 /// `limits.line` has to be at least 14, and `limits.bytes` at most 2^60. What is promised is the fields of
 /// `IsLinesRun`.

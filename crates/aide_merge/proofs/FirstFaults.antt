@@ -9,7 +9,7 @@ use Rattle.aide_db.specs.declared.limits.Limits.{Limits}
 use Rattle.aide_db.specs.declared.side.Side.{Side}
 use Rattle.aide_db.specs.declared.side.Side.TheVariants.{Old, New}
 use Rattle.aide_db.proofs.MapLaws.{first_fault_unsound}
-use Rattle.aide_merge.specs.RightAnswer.{Report, RunsBy, IsFirstFaultOf}
+use Rattle.aide_merge.specs.RightAnswer.{RunsBy, IsFirstFaultOf}
 use Rattle.aide_merge.proofs.AnswerLemmas.{true_false}
 
 -- two cuts of a list at an element are one, or the first ends in the front of the second, or the other way round
@@ -115,7 +115,7 @@ same_fault limits side text f g a b =
     λ i. record { side = sides i; line = same.0 i; kind = same.1 i }
 
 -- a run has one right answer
-pub RunsBy-unique : (limits : Limits) (over : List ℕ → List ℕ → Report) (old new : List ℕ) (r s : Result Report DbFault)
+pub RunsBy-unique : {X : Type 0} (limits : Limits) (over : List ℕ → List ℕ → X) (old new : List ℕ) (r s : Result X DbFault)
     → RunsBy limits over old new r → RunsBy limits over old new s → r ≡ s
 RunsBy-unique limits over old new (Ok x) (Ok y) a b = ap Ok (a.2 ∙ sym b.2)
 RunsBy-unique limits over old new (Ok x) (Err g) a b = absurd (elim b [

@@ -12,6 +12,8 @@ pub mod Laws
 pub mod MergeLemmas
 pub mod PassingLemmas
 pub mod PenLemmas
+pub mod ReadFaultLemmas
+pub mod RightAnswers
 pub mod RoomLemmas
 pub mod SameEntries
 pub mod SideLemmas

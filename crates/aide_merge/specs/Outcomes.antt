@@ -1,11 +1,13 @@
 -- What is counted of two maps, the outcome and the status.
-use Rattle.std.specs.Prelude.{ℕ, ◌+◌, ◌==◌, if◌then◌else◌, length, count_by}
+use Rattle.std.specs.Prelude.{ℕ, ◌+◌, ◌==◌, if◌then◌else◌, List, length, count_by}
 use Rattle.std.specs.FinMap.{len}
 use Rattle.aide_conf.specs.declared.options.Options.{Options}
+use Rattle.aide_db.specs.Giving.{columns_of_text}
+use Rattle.aide_entry.specs.Skipped.{skipped_in}
 use Rattle.aide_merge.specs.Changed.{differ_by}
 use Rattle.aide_merge.specs.Compare.{added, removed, changed, changes}
 use Rattle.aide_merge.specs.Said.{is_shown_entry}
-use Rattle.aide_db.specs.Map.{Database}
+use Rattle.aide_db.specs.Map.{Database, database_of}
 use Rattle.aide_text.specs.declared.counts.Counts.{Counts}
 use Rattle.aide_merge.specs.declared.outcome.Outcome.{Outcome}
 
@@ -29,6 +31,11 @@ outcome_by counts skipped_old skipped_new = record {
   skipped_old = skipped_old;
   skipped_new = skipped_new;
 }
+
+-- the outcome of a run over two sound texts
+abbrev pub outcome_over : Options → List ℕ → List ℕ → Outcome
+outcome_over options old new = outcome_by (counts_of options (database_of old) (database_of new))
+    (skipped_in (columns_of_text old)) (skipped_in (columns_of_text new))
 
 -- the sum of 1 if an entry was added, 2 if one was removed, and 4 if one is changed
 abbrev pub status_of : ℕ → ℕ → ℕ → ℕ

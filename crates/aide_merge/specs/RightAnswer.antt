@@ -23,12 +23,12 @@ abbrev pub IsFirstFaultOf : Limits → Side → List ℕ → DbFault → Type 0
 IsFirstFaultOf limits side text fault = (fault.side ≡ side)
     × IsFirstFault limits text fault.line fault.kind
 
--- The right answer over two texts: what is to be written of them if both are sound, and otherwise the first fault.
+-- The right answer over two texts: what is made of them if both are sound, and otherwise the first fault.
 -- A fault of the old text comes before one of the new text.
-abbrev pub RunsBy : Limits → (List ℕ → List ℕ → Report) → List ℕ → List ℕ
-    → Result Report DbFault → Type 0
-RunsBy limits over old new (Ok report) = IsSound limits old × IsSound limits new
-    × (report ≡ over old new)
+abbrev pub RunsBy : {X : Type 0} → Limits → (List ℕ → List ℕ → X) → List ℕ → List ℕ
+    → Result X DbFault → Type 0
+RunsBy limits over old new (Ok made) = IsSound limits old × IsSound limits new
+    × (made ≡ over old new)
 RunsBy limits over old new (Err fault) = IsFirstFaultOf limits Old old fault
     ⊎ (IsSound limits old × IsFirstFaultOf limits New new fault)
 
@@ -51,8 +51,8 @@ TellsSide bytes is_missing (Some text) = bytes ≡ Some text
 TellsSide bytes is_missing None = is_missing ≡ true
 
 -- the answer over two texts, as a run returns it
-abbrev pub run_answer : Result Report DbFault → Result Report RunFault
-run_answer (Ok report) = Ok report
+abbrev pub run_answer : {X : Type 0} → Result X DbFault → Result X RunFault
+run_answer (Ok made) = Ok made
 run_answer (Err fault) = Err (Database fault)
 
 -- The right answer, by what is at both sides:
@@ -60,12 +60,12 @@ run_answer (Err fault) = Err (Database fault)
 -- If only the new side is missing and the old text is sound, the answer is that the new side cannot be opened.
 -- If only the new side is missing and the old text is not sound, the answer is the first fault of the old text.
 -- If both sides are there, the answer is the right answer over both texts.
-abbrev pub RunsOverBy : Limits → (List ℕ → List ℕ → Report) → Option (List ℕ) → Option (List ℕ)
-    → Result Report RunFault → Type 0
+abbrev pub RunsOverBy : {X : Type 0} → Limits → (List ℕ → List ℕ → X) → Option (List ℕ)
+    → Option (List ℕ) → Result X RunFault → Type 0
 RunsOverBy limits over None new r = r ≡ Err (Open Old)
 RunsOverBy limits over (Some old) None r = (IsSound limits old × (r ≡ Err (Open New)))
     ⊎ ((fault : DbFault) × IsFirstFaultOf limits Old old fault × (r ≡ Err (Database fault)))
-RunsOverBy limits over (Some old) (Some new) r = (run : Result Report DbFault)
+RunsOverBy {X = X} limits over (Some old) (Some new) r = (run : Result X DbFault)
     × RunsBy limits over old new run × (r ≡ run_answer run)
 
 -- A fault that keeps a run from its answer: the sources have failed at a side that is there,
@@ -79,8 +79,8 @@ IsHindered old new sources sink (Changed side) = ⊥
 IsHindered old new sources sink (Write written) = sink
 
 -- a run stops with the fault that is the answer, or with a fault that keeps the run from its answer
-abbrev pub StopsFor : Result Report RunFault → (RunFault → Type 0) → RunFault → Type 0
-StopsFor (Ok report) hindered fault = hindered fault
+abbrev pub StopsFor : {X : Type 0} → Result X RunFault → (RunFault → Type 0) → RunFault → Type 0
+StopsFor (Ok made) hindered fault = hindered fault
 StopsFor (Err right) hindered fault = (fault ≡ right) ⊎ hindered fault
 
 -- a fault of a run over reliable sources: they fail only at the opening of a side that has no bytes to give

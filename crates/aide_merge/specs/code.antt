@@ -7,6 +7,7 @@ pub mod MergeCalls
 pub mod Merging
 pub mod NextEntry
 pub mod NextPath
+pub mod ReadFaults
 pub mod Settling
 pub mod Starts
 pub mod Upcoming

@@ -4,8 +4,6 @@ use Rattle.std.specs.Prelude.{◌≡◌, ◌≤◌, ℕ, List, Option, Some, Res
 use Rattle.std.proofs.Common.{inl, inr, refl, arith}
 use Rattle.aide_entry.specs.Cause.{is_outside}
 use Rattle.aide_db.specs.declared.fault.DbFault.{DbFault}
-use Rattle.aide_entry.specs.declared.fault_kind.DbFaultKind.{DbFaultKind}
-use Rattle.aide_entry.specs.declared.fault_kind.DbFaultKind.TheVariants.{Read, Memory}
 use Rattle.aide_db.specs.declared.limits.Limits.{Limits}
 use Rattle.aide_db.specs.declared.side.Side.{Side}
 use Rattle.aide_merge.specs.Asked.{Asked}
@@ -13,12 +11,13 @@ use Rattle.aide_report.specs.Given.{GiveOneDigest, IsGiven}
 use Rattle.aide_report.specs.Missing.{RunsOver, EndsOver}
 use Rattle.aide_merge.specs.RightAnswer.{IsHindered}
 use Rattle.aide_merge.specs.RunFaults.{CountsWrites}
-use Rattle.aide_merge.specs.RightAnswer.{Report, Causes}
-use Rattle.aide_report.specs.Runs.{Runs, HasAnswer, EndsWell, EndsEarly}
+use Rattle.aide_merge.specs.RightAnswer.{Report}
+use Rattle.aide_report.specs.Runs.{Runs, HasAnswer, EndsWell, EndsEarly, report_over}
 use Rattle.aide_merge.specs.declared.outcome.Outcome.{Outcome}
 use Rattle.aide_merge.specs.declared.run_fault.RunFault.{RunFault}
 use Rattle.aide_merge.specs.declared.run_fault.RunFault.TheVariants.{Database, Write}
-use Rattle.aide_report.proofs.MissingLemmas.{Runs-exists}
+use Rattle.aide_merge.proofs.RightAnswers.{RunsBy-exists}
+use Rattle.aide_merge.proofs.ReadFaultLemmas.{inside_is_no_hindrance}
 use Rattle.sha2.specs.Sha256.{sha256}
 
 -- the run over two texts ends as the clause `over` says
@@ -31,7 +30,7 @@ EndsOverTexts limits wish old new sources sink result before after =
 -- Two texts have a right answer.
 pub two_texts_have_an_answer : (limits : Limits) (wish : Asked) (old new : List ℕ) → 14 ≤ limits.line
     → HasAnswer limits wish old new
-two_texts_have_an_answer = Runs-exists
+two_texts_have_an_answer limits wish = RunsBy-exists limits (report_over wish)
 
 -- After `Ok` exactly the report of the right answer has gone out, and its outcome is returned.
 pub texts_end_well : (limits : Limits) (wish : Asked) (old new : List ℕ) (sources sink : Type 0) (outcome : Outcome)
@@ -50,12 +49,6 @@ texts_end_early limits wish old new sources sink fault before after over (Ok rep
     (over (Ok report) (Ok report, runs, refl)).1
 texts_end_early limits wish old new sources sink fault before after over (Err right) runs =
     (over (Err (Database right)) (Err right, runs, refl)).1
-
--- a fault of a text does not hinder the run
-inside_is_no_hindrance : (kind : DbFaultKind) (sources : Type 0) → is_outside kind ≡ false → Causes kind sources ⊥ → ⊥
-inside_is_no_hindrance Memory sources inside hinders = cc
-inside_is_no_hindrance Read sources inside hinders = cc
-inside_is_no_hindrance kind sources inside hinders = hinders
 
 -- A fault of a database other than a failed read or out of memory is the right answer.
 pub a_fault_of_a_text_is_the_answer : (limits : Limits) (wish : Asked) (old new : List ℕ) (sources sink : Type 0)

@@ -12,9 +12,8 @@ use Rattle.aide_text.specs.declared.sink.Sink.{Ghosts as AnySink}
 use Rattle.aide_text.proofs.Sending.{Appends-nothing}
 use Rattle.aide_report.specs.Agreement.{IsOfOutcome, OpensByOutcome}
 use Rattle.aide_merge.specs.Asked.{Asked}
-use Rattle.aide_merge.specs.RightAnswer.{IsHindered, StopsFor, TellsSide}
+use Rattle.aide_merge.specs.RightAnswer.{IsHindered}
 use Rattle.aide_report.specs.Given.{GiveOneDigest}
-use Rattle.aide_report.specs.Missing.{RunsOver}
 use Rattle.aide_merge.specs.Openings.{OpensAtMost, OpensExactly}
 use Rattle.aide_report.specs.Run.{IsRun}
 use Rattle.aide_merge.specs.RunFaults.{HasSentNothing, HasWrittenIfAny, IsCaused}
@@ -23,20 +22,21 @@ use Rattle.aide_merge.specs.RightAnswer.{Report}
 use Rattle.aide_merge.specs.Seen.{KeepsSources, Seen, SinkSeen, sink_seen}
 use Rattle.aide_report.specs.code.Passes.{FlushesOnce, Passes}
 use Rattle.aide_merge.specs.code.Desks.{ClearsDesk}
+use Rattle.aide_merge.specs.code.ReadFaults.{IsReadFault}
 use Rattle.aide_report.specs.code.Readings.{IsFindingFault}
 use Rattle.aide_merge.specs.declared.outcome.Outcome.{Outcome}
 use Rattle.aide_merge.specs.declared.run_fault.RunFault.{RunFault}
 use Rattle.aide_merge.specs.declared.run_fault.RunFault.TheVariants.{Write}
 use Rattle.aide_merge.proofs.BoundLemmas.{fits_limit, fits_within}
-use Rattle.aide_report.proofs.FaultLemmas.{answer_later, cause_by, first_later, right_later}
-use Rattle.aide_report.proofs.MissingLemmas.{front_by, later_over, nothing_front}
-use Rattle.aide_merge.proofs.AnswerLemmas.{hindered_by, stops_by, stops_hindered}
-use Rattle.aide_report.proofs.MissingLemmas.{whole_by}
+use Rattle.aide_report.proofs.FaultLemmas.{first_later}
+use Rattle.aide_report.proofs.MissingLemmas.{fault_of_pass, front_by, nothing_front, whole_by}
+use Rattle.aide_merge.proofs.RightAnswers.{stops_for}
+use Rattle.aide_merge.proofs.ReadFaultLemmas.{cause_by, fault_as}
 use Rattle.aide_report.proofs.OpeningLemmas.{unsent_begun, unsent_nothing}
 use Rattle.aide_report.proofs.PassLemmas.{fault_then}
 use Rattle.aide_merge.proofs.KeepLemmas.{sources_then}
 use Rattle.aide_merge.proofs.KeepLemmas.{clears_then}
-use Rattle.aide_merge.proofs.PenLemmas.{caused_as, counts_nothing}
+use Rattle.aide_merge.proofs.PenLemmas.{counts_nothing}
 use Rattle.aide_report.proofs.SectionsLemmas.{opens_more, opens_then, opens_within}
 
 at_most : (k n : ℕ) → k ≡ n → n ≤ k
@@ -49,50 +49,41 @@ nothing_written : (sources : Type 0) (bytes : Option (List ℕ)) (fault : RunFau
 nothing_written sources bytes (Write written) caused = absurd caused
 nothing_written sources bytes _ caused = tt
 
--- what a fault of the readings says of the answer
-abbrev pub StopsFirst : Limits → (a b : Seen) → RunFault → Type 0
-StopsFirst limits a b fault = (wish : Asked) (old new : Option (List ℕ)) → TellsSide (a.bytes_of Old) (a.is_missing Old) old
-    → TellsSide (a.bytes_of New) (a.is_missing New) new
-    → (r : Result Report RunFault) → RunsOver limits wish old new r
-    → StopsFor r (IsHindered old new (Rose a.failures b.failures) ⊥) fault
-
 pub run_stops : (limits : Limits) (wish : Asked) (n : ℕ) {a b : Seen} {d e : DeskView} (o : SinkSeen) {fault : RunFault}
     → n ≤ 6 → ((old new : List ℕ) → n ≤ openings_over wish old new)
     → KeepsSources a b → OpensAtMost a.openings b.openings n → IsFindingFault limits a b d.room fault
-    → StopsFirst limits a b fault → ClearsDesk limits a.bytes_of d e
-    → IsRun limits wish a b d e o o (Err fault)
-run_stops limits wish n {a} {b} {d} {e} o {fault} most within kept few is stops cleared =
+    → ClearsDesk limits a.bytes_of d e → IsRun limits wish a b d e o o (Err fault)
+run_stops limits wish n {a} {b} {d} {e} o {fault} most within kept few found cleared =
     let sources = Rose a.failures b.failures in
     let sink = Rose o.failures o.failures in
+    let is : IsReadFault limits a b d.room sink fault = fault_as (λ none. absurd none) found.read in
     let peaks = fits_limit a.bytes_of limits d e cleared.fits in
     record {
       over = λ old new told_old told_new r runs. (
-        stops_by r (IsHindered old new sources ⊥) (IsHindered old new sources sink) fault (hindered_by old new sources sink fault)
-            (stops wish old new told_old told_new r runs),
+        stops_for limits (report_over wish) old new (IsHindered old new sources sink) fault (is.over old new told_old told_new) r runs,
         nothing_front r o.delivered,
       );
       reliable = is.reliable;
       sound = tt;
       nothing = λ side text told unsound. Appends-nothing o.delivered;
-      written = nothing_written sources o.delivered fault is.caused;
+      written = nothing_written sources o.delivered fault found.read.caused;
       consistent = tt;
       flushed = tt;
       flushes = refl;
       unsent = unsent_nothing 2 (a.openings Old) (b.openings Old) o.delivered fault;
       agreed = tt;
       at_same = kept.at_same;
-      cause = cause_by limits wish (report_over wish) a.bytes_of sources sink fault
-          (caused_as sources ⊥ sink fault (λ none. absurd none) is.caused) (is.first wish) is.right;
+      cause = cause_by (report_over wish) fault is;
       right = is.right;
       refused = is.refused;
       not_given = is.not_given;
       sources_never_fall = kept.never_falls;
-      sink_fails = counts_nothing sources o.failures fault is.caused;
+      sink_fails = counts_nothing sources o.failures fault found.read.caused;
       opens = tt;
       opens_told = tt;
       opens_within = λ old new told_old told_new sound_old sound_new. opens_within _ _ n _ (within old new) few;
       opens_some = opens_within _ _ n _ most few;
-      opens_first = is.opens_first;
+      opens_first = found.opens_first;
       peak = peaks.0;
       below = peaks.1;
       bound = fits_within a.bytes_of limits d e cleared.fits;
@@ -181,13 +172,11 @@ module _ (limits : Limits) (wish : Asked) (n m : ℕ) {a b c : Seen} {d e f : De
       let peaks = fits_limit a.bytes_of limits d f cleared.fits in
       let sources = Rose a.failures c.failures in
       let sink = Rose (s.failures out) (s.failures sent) in
-      let is = fault_then n read.kept read.opened read.cleared.room passes.fault in
-      let right = right_later limits a.bytes_of read.sound fault is.later in
+      let pass = fault_then n read.kept read.opened read.cleared.room passes.fault in
+      let is = fault_of_pass read.there read.sound pass in
       record {
         over = λ old new told_old told_new r runs. (
-          stops_hindered r (IsHindered old new sources sink) fault
-              (later_over limits a.bytes_of a.is_missing old new sources sink fault told_old told_new read.there read.sound
-              is.later is.caused),
+          stops_for limits (report_over wish) old new (IsHindered old new sources sink) fault (is.over old new told_old told_new) r runs,
           front_by limits (report_over wish) a.bytes_of a.is_missing old new (s.delivered out) (s.delivered sent) told_old told_new
               read.there early r runs,
         );
@@ -203,9 +192,8 @@ module _ (limits : Limits) (wish : Asked) (n m : ℕ) {a b c : Seen} {d e f : De
             read.opened.of_old passes.fault.begun);
         agreed = tt;
         at_same = kept.at_same;
-        cause = cause_by limits wish (report_over wish) a.bytes_of sources sink fault is.caused
-            (answer_later limits wish a.bytes_of fault is.later) right;
-        right = right;
+        cause = cause_by (report_over wish) fault is;
+        right = is.right;
         refused = is.refused;
         not_given = is.not_given;
         sources_never_fall = kept.never_falls;
@@ -215,7 +203,7 @@ module _ (limits : Limits) (wish : Asked) (n m : ℕ) {a b c : Seen} {d e f : De
         opens_within = λ old new told_old told_new sound_old sound_new.
             opens_then _ _ _ n m _ (at_most _ _ (are old new told_old told_new)) read.opened passes.opens_some;
         opens_some = opens_then _ _ _ n m _ most read.opened passes.opens_some;
-        opens_first = first_later limits a.bytes_of a.openings c.openings fault is.later;
+        opens_first = first_later limits a.bytes_of a.openings c.openings fault pass.later;
         peak = peaks.0;
         below = peaks.1;
         bound = fits_within a.bytes_of limits d f cleared.fits;

@@ -1,22 +1,15 @@
 -- What a run over two databases returns.
-use Rattle.std.specs.Prelude.{◌≡◌, ℕ, ◌+◌, Option, Some, Result, Ok, Err, List, [], ⊤, false}
+use Rattle.std.specs.Prelude.{◌≡◌, ℕ, ◌+◌, Option, Result, Ok, Err, List, []}
 use Rattle.std.specs.Io.KnownBytes.{Appends}
 use Rattle.aide_merge.specs.Asked.{Asked}
 use Rattle.sha2.specs.Sha256.{sha256}
-use Rattle.aide_entry.specs.Cause.{is_outside}
-use Rattle.aide_db.specs.Giving.{columns_of_text}
 use Rattle.aide_db.specs.Map.{database_of}
-use Rattle.aide_entry.specs.Skipped.{skipped_in}
 use Rattle.aide_db.specs.declared.fault.DbFault.{DbFault}
 use Rattle.aide_db.specs.declared.limits.Limits.{Limits}
-use Rattle.aide_db.specs.declared.side.Side.{Side}
-use Rattle.aide_db.specs.declared.side.Side.TheVariants.{Old, New}
 use Rattle.aide_report.specs.Report.{Origin, report_of, section_count}
-use Rattle.aide_merge.specs.Outcomes.{counts_of, outcome_by}
+use Rattle.aide_merge.specs.Outcomes.{counts_of, outcome_over}
 use Rattle.aide_text.specs.Sent.{SendsPart}
 use Rattle.aide_merge.specs.declared.outcome.Outcome.{Outcome}
-use Rattle.aide_merge.specs.declared.run_fault.RunFault.{RunFault}
-use Rattle.aide_merge.specs.declared.run_fault.RunFault.TheVariants.{Database}
 use Rattle.aide_merge.specs.RightAnswer.{Report, RunsBy}
 
 -- what a report shows of a database itself: its path, and the SHA-256 of its text
@@ -28,10 +21,7 @@ unfoldable pub report_over : Asked → List ℕ → List ℕ → Report
 report_over asked old new = record {
   text = report_of asked.options (origin_of asked.old_path old) (origin_of asked.new_path new)
       (database_of old) (database_of new);
-  outcome =
-      outcome_by (counts_of asked.options (database_of old) (database_of new))
-      (skipped_in (columns_of_text old))
-      (skipped_in (columns_of_text new));
+  outcome = outcome_over asked.options old new;
 }
 
 -- how many sections of entries that report contains
@@ -50,13 +40,6 @@ Runs limits asked old new r = RunsBy limits (report_over asked) old new r
 -- there is a right answer
 abbrev pub HasAnswer : Limits → Asked → List ℕ → List ℕ → Type 0
 HasAnswer limits asked old new = (r : Result Report DbFault) × Runs limits asked old new r
-
--- a fault of a text is the right answer
-abbrev pub IsRunFault : Limits → Asked → (Side → Option (List ℕ)) → RunFault → Type 0
-IsRunFault limits asked bytes_of (Database fault) = (old new : List ℕ) → bytes_of Old ≡ Some old
-    → bytes_of New ≡ Some new
-    → is_outside fault.kind ≡ false → Runs limits asked old new (Err fault)
-IsRunFault limits asked bytes_of _ = ⊤
 
 -- all of an answer's report has been written, and its outcome is returned
 abbrev pub EndsWell : Result Report DbFault → Outcome → Option (List ℕ) → Option (List ℕ) → Type 0

@@ -1,8 +1,6 @@
 //! A whole run.
-ghost use Rattle.std.specs.Prelude.{◌≤◌, ◌^◌, ℕ, List, Option, Result, IfOk, IfErr, OnOk};
-ghost use Rattle.aide_merge.specs.Asked.{Asked, asked};
-ghost use Rattle.aide_merge.specs.RightAnswer.{IsHindered, StopsFor, TellsSide, Report};
-ghost use Rattle.aide_report.specs.Missing.{RunsOver};
+ghost use Rattle.std.specs.Prelude.{◌≤◌, ◌^◌, IfOk, IfErr, OnOk};
+ghost use Rattle.aide_merge.specs.Asked.{asked};
 ghost use Rattle.aide_merge.specs.Openings.{OpensExactly, OpensAtMost};
 ghost use Rattle.aide_report.specs.Run.{IsRun};
 ghost use Rattle.aide_merge.specs.Seen.{AreLimits, KeepsSources, seen, sink_seen};
@@ -10,7 +8,6 @@ ghost use Rattle.aide_merge.specs.code.BothRead.{AreRead};
 ghost use Rattle.aide_merge.specs.code.Desks.{ClearsDesk};
 ghost use Rattle.aide_report.specs.code.GivenDigests.{GaveDigests};
 ghost use Rattle.aide_report.specs.code.Readings.{IsFindingFault, IsFound};
-ghost use Rattle.aide_text.specs.Failures.{Rose};
 
 use crate::finding::Finding;
 use crate::pass::{count_pass, read_whole};
@@ -36,12 +33,6 @@ pub(crate) fn read_both<S: Sources, A: Allocator + Copy>(
         (S.openings sources.old) (S.openings sources.new) readings.digests) }
     ensures fault { IfErr result (IsFindingFault
         limits (seen S.Sources sources.old) (seen S.Sources sources.new) desk.old.room) }
-    ensures over { (wish : Asked) (old new : Option (List ℕ))
-        → TellsSide (S.bytes_of sources.old Side.Old) (S.is_missing sources.old Side.Old) old
-        → TellsSide (S.bytes_of sources.old Side.New) (S.is_missing sources.old Side.New) new
-        → (r : Result Report RunFault) → RunsOver limits wish old new r
-        → IfErr result (StopsFor r
-        (IsHindered old new (Rose (S.failures sources.old) (S.failures sources.new)) ⊥)) }
     ensures desk { ClearsDesk limits (S.bytes_of sources.old) desk.old desk.new }
 {
     clear(limits, desk);
@@ -78,12 +69,6 @@ pub(crate) fn compare<S: Sources, A: Allocator + Copy>(
         (S.openings sources.old) (S.openings sources.new) finding.digests) }
     ensures fault { IfErr result (IsFindingFault
         limits (seen S.Sources sources.old) (seen S.Sources sources.new) desk.old.room) }
-    ensures over { (wish : Asked) (old new : Option (List ℕ))
-        → TellsSide (S.bytes_of sources.old Side.Old) (S.is_missing sources.old Side.Old) old
-        → TellsSide (S.bytes_of sources.old Side.New) (S.is_missing sources.old Side.New) new
-        → (r : Result Report RunFault) → RunsOver limits wish old new r
-        → IfErr result (StopsFor r
-        (IsHindered old new (Rose (S.failures sources.old) (S.failures sources.new)) ⊥)) }
     ensures desk { ClearsDesk limits (S.bytes_of sources.old) desk.old desk.new }
 {
     let readings = match read_both(limits, desk, sources) {

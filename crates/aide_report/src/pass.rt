@@ -16,7 +16,8 @@ ghost use Rattle.aide_report.specs.code.PassFaults.{pass_fault_of};
 ghost use Rattle.aide_report.specs.code.Passes.{KeepsPen, Passes, WritesOver};
 ghost use Rattle.aide_text.specs.PenSheet.{on_sheet};
 ghost use Rattle.aide_merge.specs.code.Starts.{GivesBoth};
-ghost use Rattle.aide_report.specs.code.Readings.{IsReadingFault, IsWholeReading};
+ghost use Rattle.aide_merge.specs.code.ReadFaults.{IsReadingFault};
+ghost use Rattle.aide_report.specs.code.Readings.{IsWholeReading};
 ghost use Rattle.aide_merge.specs.Seen.{AreLimits, KeepsSources, OpensOnce, seen};
 
 use crate::change_writer::{ChangeWriter, PassFault, put_entries};

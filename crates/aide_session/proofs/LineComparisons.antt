@@ -18,10 +18,8 @@ use Rattle.aide_entry.specs.declared.fault_kind.DbFaultKind.TheVariants as db
 use Rattle.aide_merge.specs.Asked.{Asked}
 use Rattle.aide_report.specs.Failures.{Rose}
 use Rattle.aide_merge.specs.FaultStatus.{fault_status, kind_status}
-use Rattle.aide_merge.specs.RightAnswer.{IsHindered, run_answer}
-use Rattle.aide_report.specs.Missing.{RunsOver}
-use Rattle.aide_merge.specs.RightAnswer.{Causes, Report}
-use Rattle.aide_report.specs.Runs.{Runs}
+use Rattle.aide_merge.specs.Outcomes.{outcome_over}
+use Rattle.aide_merge.specs.RightAnswer.{Causes, IsHindered, Report, RunsBy, RunsOverBy, run_answer}
 use Rattle.aide_report.specs.Sent.{SendsPart}
 use Rattle.aide_merge.specs.declared.outcome.Outcome.{Outcome}
 use Rattle.aide_merge.specs.declared.run_fault.RunFault.{RunFault}
@@ -177,31 +175,31 @@ none_front : (r : Result Report PairFault) (before after : Option (List ℕ)) �
 none_front (Ok report) before after none = record { front = []; rest = report.text; whole = refl; bytes = none }
 none_front (Err fault) before after none = none
 
-ok_is_no_fault : (report : Report) (fault : RunFault) → Ok report ≡ Err fault → ⊥
-ok_is_no_fault report fault e = cc
+ok_is_no_fault : (outcome : Outcome) (fault : RunFault) → Ok outcome ≡ Err fault → ⊥
+ok_is_no_fault outcome fault e = cc
 
--- two texts of which the answer is a report are both sound
-sound_run : (wish : Asked) (old new : List ℕ) (report : Report) (run : Result Report DbFault) → Runs limits wish old new run
-    → Ok report ≡ run_answer run → IsSound limits old × IsSound limits new
-sound_run wish old new report (Ok other) is same = (is.0, is.1)
-sound_run wish old new report (Err fault) is same = absurd (ok_is_no_fault report (Database fault) same)
+-- two texts of which the answer is an outcome are both sound
+sound_run : (over : List ℕ → List ℕ → Outcome) (old new : List ℕ) (outcome : Outcome) (run : Result Outcome DbFault)
+    → RunsBy limits over old new run → Ok outcome ≡ run_answer run → IsSound limits old × IsSound limits new
+sound_run over old new outcome (Ok other) is same = (is.0, is.1)
+sound_run over old new outcome (Err fault) is same = absurd (ok_is_no_fault outcome (Database fault) same)
 
-sound_pair : (wish : Asked) (old new : List ℕ) (report : Report) → RunsOver limits wish (Some old) (Some new) (Ok report)
-    → IsSound limits old × IsSound limits new
-sound_pair wish old new report runs = sound_run wish old new report runs.0 runs.1 runs.2
+sound_pair : (over : List ℕ → List ℕ → Outcome) (old new : List ℕ) (outcome : Outcome)
+    → RunsOverBy limits over (Some old) (Some new) (Ok outcome) → IsSound limits old × IsSound limits new
+sound_pair over old new outcome runs = sound_run over old new outcome runs.0 runs.1 runs.2
 
 -- two texts of which the answer is a fault are not
-unsound_run : (wish : Asked) (old new : List ℕ) (fault : RunFault) (run : Result Report DbFault) → Runs limits wish old new run
-    → Err fault ≡ run_answer run → IsSound limits old → IsSound limits new → ⊥
-unsound_run wish old new fault (Ok other) is same sound_old sound_new = absurd (ok_is_no_fault other fault (sym same))
-unsound_run wish old new fault (Err first) is same sound_old sound_new = elim is [
+unsound_run : (over : List ℕ → List ℕ → Outcome) (old new : List ℕ) (fault : RunFault) (run : Result Outcome DbFault)
+    → RunsBy limits over old new run → Err fault ≡ run_answer run → IsSound limits old → IsSound limits new → ⊥
+unsound_run over old new fault (Ok other) is same sound_old sound_new = absurd (ok_is_no_fault other fault (sym same))
+unsound_run over old new fault (Err first) is same sound_old sound_new = elim is [
   | inl of_old ↦ no_sound_text_has_a_fault limits old first.line first.kind of_old.1 sound_old
   | inr of_new ↦ no_sound_text_has_a_fault limits new first.line first.kind of_new.1.1 sound_new
 ]
 
-unsound_pair : (wish : Asked) (old new : List ℕ) (fault : RunFault) → RunsOver limits wish (Some old) (Some new) (Err fault)
-    → IsSound limits old → IsSound limits new → ⊥
-unsound_pair wish old new fault runs = unsound_run wish old new fault runs.0 runs.1 runs.2
+unsound_pair : (over : List ℕ → List ℕ → Outcome) (old new : List ℕ) (fault : RunFault)
+    → RunsOverBy limits over (Some old) (Some new) (Err fault) → IsSound limits old → IsSound limits new → ⊥
+unsound_pair over old new fault runs = unsound_run over old new fault runs.0 runs.1 runs.2
 
 module _ (list : ListRead) (wish trusted_wish : Asked) (texts : FourTexts) (before after : Option (List ℕ)) where
   abbrev AllSound : Type 0
@@ -228,19 +226,20 @@ module _ (list : ListRead) (wish trusted_wish : Asked) (texts : FourTexts) (befo
       record { cut = cut.1 unsound; early = λ fronts are. early fronts are unsound }
   unsound_cut fault unsound cut early = record { cut = cut; early = early }
 
-  front_by : (compared trusted : Result Report RunFault) (r : Result Report PairFault) (fault : PairFault)
-      → RunsOver limits wish (Some texts.old) (Some texts.new) compared
-      → RunsOver limits trusted_wish (Some texts.trusted_old) (Some texts.trusted_new) trusted
+  front_by : (compared trusted : Result Outcome RunFault) (r : Result Report PairFault) (fault : PairFault)
+      → RunsOverBy limits (outcome_over wish.options) (Some texts.old) (Some texts.new) compared
+      → RunsOverBy limits (outcome_over trusted_wish.options) (Some texts.trusted_old) (Some texts.trusted_new) trusted
       → answer_by compared trusted (Some all_texts) r → Cut fault → Early fault
       → SendsFront (start_of_lines list wish trusted_wish texts) r before after
   front_by (Err first) trusted r fault runs trusted_runs is cut early =
       subst (λ (x : Result Report PairFault). SendsFront (start_of_lines list wish trusted_wish texts) x before after) (sym is)
-      (unsound_cut fault (λ sound. unsound_pair wish texts.old texts.new first runs sound.of_old sound.of_new) cut early)
-  front_by (Ok report) (Err first) r fault runs trusted_runs is cut early =
+      (unsound_cut fault (λ sound. unsound_pair (outcome_over wish.options) texts.old texts.new first runs sound.of_old sound.of_new)
+      cut early)
+  front_by (Ok outcome) (Err first) r fault runs trusted_runs is cut early =
       subst (λ (x : Result Report PairFault). SendsFront (start_of_lines list wish trusted_wish texts) x before after) (sym is)
-      (unsound_cut fault (λ sound. unsound_pair trusted_wish texts.trusted_old texts.trusted_new first trusted_runs sound.of_trusted_old
-      sound.of_trusted_new) cut early)
-  front_by (Ok report) (Ok other) r fault runs trusted_runs is cut early = search (rules, sound_pair, sound_cut)
+      (unsound_cut fault (λ sound. unsound_pair (outcome_over trusted_wish.options) texts.trusted_old texts.trusted_new first
+      trusted_runs sound.of_trusted_old sound.of_trusted_new) cut early)
+  front_by (Ok outcome) (Ok other) r fault runs trusted_runs is cut early = search (rules, sound_pair, sound_cut)
 
 -- ---- a comparison and its answer
 

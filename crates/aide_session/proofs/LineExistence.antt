@@ -15,10 +15,11 @@ use Rattle.aide_patterns.specs.List.{IsReading}
 use Rattle.aide_patterns.specs.code.Reading.{read_list}
 use Rattle.aide_patterns.specs.declared.fault.ListFault.{ListFault}
 use Rattle.aide_merge.specs.Asked.{Asked}
-use Rattle.aide_report.specs.Missing.{RunsOver}
-use Rattle.aide_merge.specs.RightAnswer.{Report}
+use Rattle.aide_merge.specs.Outcomes.{outcome_over}
+use Rattle.aide_merge.specs.RightAnswer.{Report, RunsOverBy}
+use Rattle.aide_merge.specs.declared.outcome.Outcome.{Outcome}
 use Rattle.aide_merge.specs.declared.run_fault.RunFault.{RunFault}
-use Rattle.aide_report.proofs.MissingLemmas.{RunsOver-exists}
+use Rattle.aide_merge.proofs.RightAnswers.{RunsOverBy-exists}
 use Rattle.aide_session.specs.Answer.{Named, asked_by, limits}
 use Rattle.aide_session.specs.LineAnswer.{HasLineAnswer, IsReadLineAnswer, IsSizedLineAnswer, IsTextLineAnswer, TellsForLines}
 use Rattle.aide_session.specs.LineAnswer.{LineAnswer, ComparesForLines, line_answer, lines_at_fault, refused_lines, trusted_of}
@@ -41,15 +42,15 @@ abbrev AreThere : (old new : Option (List ℕ)) → Type 0
 AreThere (Some old) (Some new) = ⊤
 AreThere _ _ = ⊥
 
-refused_okay : (r : Result Report RunFault) (fault : RunFault) → r ≡ Err fault → IsOkay r → ⊥
+refused_okay : (r : Result Outcome RunFault) (fault : RunFault) → r ≡ Err fault → IsOkay r → ⊥
 refused_okay r fault is okay = subst IsOkay is okay
 
 -- an answer without a fault is one over two texts
-both_there : (bounds : Limits) (wish : Asked) (old new : Option (List ℕ)) (r : Result Report RunFault) → RunsOver bounds wish old new r
-    → IsOkay r → AreThere old new
-both_there bounds wish None new r runs okay = absurd (refused_okay r _ runs okay)
-both_there bounds wish (Some old) None r runs okay = search (rules, refused_okay)
-both_there bounds wish (Some old) (Some new) r runs okay = tt
+both_there : (bounds : Limits) (over : List ℕ → List ℕ → Outcome) (old new : Option (List ℕ)) (r : Result Outcome RunFault)
+    → RunsOverBy bounds over old new r → IsOkay r → AreThere old new
+both_there bounds over None new r runs okay = absurd (refused_okay r _ runs okay)
+both_there bounds over (Some old) None r runs okay = search (rules, refused_okay)
+both_there bounds over (Some old) (Some new) r runs okay = tt
 
 abbrev IsWhole : Option Report → Type 0
 IsWhole None = ⊥
@@ -63,23 +64,23 @@ whole over (Some old) (Some new) None trusted_new there trusted_there = absurd t
 whole over (Some old) (Some new) (Some trusted_old) None there trusted_there = absurd trusted_there
 whole over (Some old) (Some new) (Some trusted_old) (Some trusted_new) there trusted_there = tt
 
-answer_exists : (compared trusted : Result Report RunFault) (over : Option Report) → (IsOkay compared → IsOkay trusted → IsWhole over)
+answer_exists : (compared trusted : Result Outcome RunFault) (over : Option Report) → (IsOkay compared → IsOkay trusted → IsWhole over)
     → (r : Result Report PairFault) × answer_by compared trusted over r
 answer_exists (Err fault) trusted over whole = (Err (Compared fault), refl)
-answer_exists (Ok report) (Err fault) over whole = (Err (Trusted fault), refl)
-answer_exists (Ok report) (Ok other) None whole = absurd (whole tt tt)
-answer_exists (Ok report) (Ok other) (Some over) whole = (Ok over, refl)
+answer_exists (Ok outcome) (Err fault) over whole = (Err (Trusted fault), refl)
+answer_exists (Ok outcome) (Ok other) None whole = absurd (whole tt tt)
+answer_exists (Ok outcome) (Ok other) (Some over) whole = (Ok over, refl)
 
 -- What is at four sides has a right answer.
 pub RunsLines-exists : (bounds : Limits) (list : ListRead) (wish trusted_wish : Asked) (old new trusted_old trusted_new : Option (List ℕ))
     → 14 ≤ bounds.line → (r : Result Report PairFault) × RunsLines bounds list wish trusted_wish old new trusted_old trusted_new r
 RunsLines-exists bounds list wish trusted_wish old new trusted_old trusted_new least =
-    let compared = RunsOver-exists bounds wish old new least in
-    let trusted = RunsOver-exists bounds trusted_wish trusted_old trusted_new least in
+    let compared = RunsOverBy-exists bounds (outcome_over wish.options) old new least in
+    let trusted = RunsOverBy-exists bounds (outcome_over trusted_wish.options) trusted_old trusted_new least in
     let r = answer_exists compared.0 trusted.0 (over_sides (lines_of_texts list wish trusted_wish) old new trusted_old trusted_new)
     (λ okay other. whole (lines_of_texts list wish trusted_wish) old new trusted_old trusted_new
-    (both_there bounds wish old new compared.0 compared.1 okay)
-    (both_there bounds trusted_wish trusted_old trusted_new trusted.0 trusted.1 other)) in (
+    (both_there bounds (outcome_over wish.options) old new compared.0 compared.1 okay)
+    (both_there bounds (outcome_over trusted_wish.options) trusted_old trusted_new trusted.0 trusted.1 other)) in (
       r.0,
       record {
         compared = compared.0;

@@ -12,9 +12,11 @@ use Rattle.aide_patterns.specs.Line.{RuleText}
 use Rattle.aide_patterns.specs.List.{HasFirstFault}
 use Rattle.aide_patterns.specs.declared.fault.ListFault.{ListFault}
 use Rattle.aide_merge.specs.Asked.{Asked}
+use Rattle.aide_merge.specs.Outcomes.{outcome_over}
 use Rattle.aide_merge.specs.RightAnswer.{Report}
+use Rattle.aide_merge.specs.declared.outcome.Outcome.{Outcome}
 use Rattle.aide_merge.specs.declared.run_fault.RunFault.{RunFault}
-use Rattle.aide_report.proofs.MissingLemmas.{RunsOver-unique}
+use Rattle.aide_merge.proofs.RightAnswers.{RunsOverBy-unique}
 use Rattle.aide_session.specs.Answer.{Named, asked_by, limits}
 use Rattle.aide_session.specs.AsksForLines.{AsksForLines}
 use Rattle.aide_session.specs.LineAnswer.{ComparesForLines, HasLineAnswer, IsLineAnswer, IsFileLineAnswer, IsReadLineAnswer}
@@ -92,12 +94,12 @@ a_fault_of_the_list_is_the_answer files trusted_files job named fault config_is 
 one_file : (there : Option (Option (List ℕ))) (one other : Option (List ℕ)) → there ≡ Some one → there ≡ Some other → other ≡ one
 one_file there one other p q = cc
 
-one_answer_by : (compared trusted : Result Report RunFault) (over : Option Report) (r s : Result Report PairFault)
+one_answer_by : (compared trusted : Result Outcome RunFault) (over : Option Report) (r s : Result Report PairFault)
     → answer_by compared trusted over r → answer_by compared trusted over s → r ≡ s
 one_answer_by (Err fault) trusted over r s p q = p ∙ sym q
-one_answer_by (Ok report) (Err fault) over r s p q = p ∙ sym q
-one_answer_by (Ok report) (Ok other) None r s p q = absurd p
-one_answer_by (Ok report) (Ok other) (Some over) r s p q = p ∙ sym q
+one_answer_by (Ok outcome) (Err fault) over r s p q = p ∙ sym q
+one_answer_by (Ok outcome) (Ok other) None r s p q = absurd p
+one_answer_by (Ok outcome) (Ok other) (Some over) r s p q = p ∙ sym q
 
 -- What is at four sides has only one right answer.
 pub four_sides_have_one_answer : (limits : Limits) (list : ListRead) (wish trusted_wish : Asked)
@@ -107,11 +109,12 @@ pub four_sides_have_one_answer : (limits : Limits) (list : ListRead) (wish trust
     → RunsLines limits list wish trusted_wish old new trusted_old trusted_new s → r ≡ s
 four_sides_have_one_answer limits list wish trusted_wish old new trusted_old trusted_new r s p q =
     let over = over_sides (lines_of_texts list wish trusted_wish) old new trusted_old trusted_new in
-    let compared = RunsOver-unique limits wish old new q.compared p.compared q.compared_runs p.compared_runs in
-    let trusted = RunsOver-unique limits trusted_wish trusted_old trusted_new q.trusted p.trusted q.trusted_runs p.trusted_runs in
+    let compared = RunsOverBy-unique limits (outcome_over wish.options) old new q.compared p.compared q.compared_runs p.compared_runs in
+    let trusted = RunsOverBy-unique limits (outcome_over trusted_wish.options) trusted_old trusted_new q.trusted p.trusted
+    q.trusted_runs p.trusted_runs in
     one_answer_by p.compared p.trusted over r s p.answer
-    (subst (λ (t : Result Report RunFault). answer_by p.compared t over s) trusted
-    (subst (λ (c : Result Report RunFault). answer_by c q.trusted over s) compared q.answer))
+    (subst (λ (t : Result Outcome RunFault). answer_by p.compared t over s) trusted
+    (subst (λ (c : Result Outcome RunFault). answer_by c q.trusted over s) compared q.answer))
 
 module _ (files trusted_files : Files) (job : LineJobText) (list : ListRead) where
   -- the same settings and the same configuration name the same paths

@@ -6,7 +6,7 @@ use Rattle.aide_conf.specs.Settings.{Configured}
 use Rattle.aide_conf.specs.declared.fault.ConfFault.{ConfFault}
 use Rattle.aide_conf.specs.declared.options.Options.{Options}
 use Rattle.aide_conf.proofs.Laws.{no_configuration_has_two_answers}
-use Rattle.aide_report.proofs.MissingLemmas.{RunsOver-unique}
+use Rattle.aide_report.proofs.Laws.{no_pair_has_two_answers}
 use Rattle.aide_session.specs.Answer.{Answer, Named, Compares, IsCompared, IsFileAnswerBy, IsReadAnswerBy}
 use Rattle.aide_session.specs.Answer.{IsAnswerBy, IsSizedAnswerBy, IsTextAnswerBy}
 use Rattle.aide_session.specs.Files.{Files, is_too_large}
@@ -22,7 +22,7 @@ one_file there one other p q = cc
 module _ (says : Says) (files : Files) where
   one_comparison : (options : Options) (named : Named) (old new : Option (List ℕ)) (a b : Answer)
       → IsCompared options named old new a → IsCompared options named old new b → a ≡ b
-  one_comparison options named old new a b p q = search (rules, compared_by, answer_by, RunsOver-unique)
+  one_comparison options named old new a b p q = search (rules, compared_by, answer_by, no_pair_has_two_answers)
 
   one_of_paths : (s : Configured) (named : Named) (a b : Answer) → Compares files s named a
       → Compares files s named b → a ≡ b

@@ -1,5 +1,5 @@
 -- What the calls of a run over both databases promise that reads each of them once.
-use Rattle.std.specs.Prelude.{◌≡◌, ◌<◌, ◌≤◌, ℕ, true, List, Some, Option, Result, IfErr, OnOk}
+use Rattle.std.specs.Prelude.{◌≡◌, ◌<◌, ◌≤◌, ℕ, true, List, Some, Result, IfErr, OnOk}
 use Rattle.aide_db.specs.Database.{IsSound}
 use Rattle.aide_db.specs.DeskView.{DeskView}
 use Rattle.aide_db.specs.declared.fault.DbFault.{DbFault}
@@ -9,17 +9,13 @@ use Rattle.aide_db.specs.declared.side.Side.{Side}
 use Rattle.aide_db.specs.declared.side.Side.TheVariants.{Old, New}
 use Rattle.aide_entry.specs.declared.fault_kind.DbFaultKind.TheVariants.{Read}
 use Rattle.aide_line_text.specs.Frame.{ReadFacts}
-use Rattle.aide_merge.specs.Asked.{Asked}
-use Rattle.aide_merge.specs.RightAnswer.{IsHindered, IsOfReliable, StopsFor, TellsSide, Report}
-use Rattle.aide_report.specs.Missing.{RunsOver}
-use Rattle.aide_merge.specs.Openings.{IsNotGiven, IsRefusedThere, OpensAtMost, OpensExactly}
-use Rattle.aide_merge.specs.Room.{IsNotMemory, IsNotOfMemory}
-use Rattle.aide_merge.specs.RunFaults.{IsCaused, IsRight}
-use Rattle.aide_report.specs.Runs.{IsRunFault}
+use Rattle.aide_merge.specs.Openings.{OpensAtMost, OpensExactly}
+use Rattle.aide_merge.specs.Room.{IsNotMemory}
 use Rattle.aide_merge.specs.Seen.{KeepsSources, Seen}
 use Rattle.aide_merge.specs.Standing.{IsFaultOf}
 use Rattle.aide_merge.specs.code.Merging.{StandsAt, limits_at, reels_failed}
 use Rattle.aide_merge.specs.code.Desks.{KeepsDesk}
+use Rattle.aide_merge.specs.code.ReadFaults.{IsReadFault}
 use Rattle.aide_merge.specs.declared.readings.Readings.{Readings}
 use Rattle.aide_merge.specs.declared.merge.Merge.{Merge}
 use Rattle.aide_merge.specs.declared.run_fault.RunFault.{RunFault}
@@ -40,28 +36,13 @@ pub record IsFirstOfBoth {R : Type 0} (r : Reels R) (m n : Merge R) (d : DeskVie
   -- no allocation fails if the longest allowed line fits into the reserved room
   pub memory : ((side : Side) → (limits_at m side).line ≤ d.room) → IsNotMemory fault
 
--- What a fault means. `sink` says what a failed write means.
-pub record IsReadFault (limits : Limits) (a b : Seen) (room : ℕ) (sink : Type 0)
+-- What a fault means of sides that are read once.
+pub record IsOneReadingFault (limits : Limits) (a b : Seen) (room : ℕ) (sink : Type 0)
     (fault : RunFault) : Type 0 where
-  -- no side is called changed, and a fault of a text is the first one
-  pub right : IsRight limits a.bytes_of fault
+  -- it is a fault of a run
+  pub read : IsReadFault limits a b room sink fault
+  -- no side is called changed
   pub unchanged : (side : Side) → fault ≡ Changed side → ⊥
-  -- if both texts are known, the fault is the run's only answer
-  pub first : (wish : Asked) → IsRunFault limits wish a.bytes_of fault
-  pub over : (wish : Asked) (old new : Option (List ℕ))
-      → TellsSide (a.bytes_of Old) (a.is_missing Old) old
-      → TellsSide (a.bytes_of New) (a.is_missing New) new
-      → (r : Result Report RunFault) → RunsOver limits wish old new r
-      → StopsFor r (IsHindered old new (Rose a.failures b.failures) sink) fault
-  -- a side that could not be opened is the one that was opened last, and that opening is not known to have succeeded
-  pub refused : IsRefusedThere a.openings b.openings fault
-  pub not_given : IsNotGiven b.was_given fault
-  -- a device of the sources has failed, or the sink has
-  pub caused : IsCaused (Rose a.failures b.failures) sink fault
-  -- reliable sources fail only at a side that has no bytes
-  pub reliable : a.is_reliable ≡ true → IsOfReliable a.bytes_of fault
-  -- no allocation fails if the longest allowed line fits into the reserved room
-  pub memory : limits.line ≤ room → IsNotOfMemory fault
 
 -- Both sides were opened at most once, and read.
 pub record Reads {T : Type 0} (limits : Limits) (a b : Seen) (d e : DeskView)
@@ -74,7 +55,7 @@ pub record Reads {T : Type 0} (limits : Limits) (a b : Seen) (d e : DeskView)
   pub opens : OnOk result (OpensExactly a.openings b.openings 1)
   pub opens_some : OpensAtMost a.openings b.openings 1
   -- what a fault means
-  pub fault : IfErr result (IsReadFault limits a b d.room sink)
+  pub fault : IfErr result (IsOneReadingFault limits a b d.room sink)
 
 -- What was read of only the old side, whose reel was open.
 pub record IsOldFault (limits : Limits) (a b : Seen) (room : ℕ) (fault : DbFault) : Type 0 where

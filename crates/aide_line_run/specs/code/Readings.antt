@@ -8,7 +8,7 @@ use Rattle.aide_db.specs.declared.side.Side.{Side}
 use Rattle.aide_merge.specs.Openings.{OpensAtMost, OpensExactly}
 use Rattle.aide_merge.specs.Seen.{KeepsSources, Seen}
 use Rattle.aide_merge.specs.code.MergeCalls.{IsOpened}
-use Rattle.aide_line_run.specs.code.OneReading.{IsReadFault}
+use Rattle.aide_line_run.specs.code.OneReading.{IsOneReadingFault}
 use Rattle.aide_merge.specs.code.Desks.{KeepsDesk}
 use Rattle.aide_merge.specs.declared.merge.Merge.{Merge}
 use Rattle.aide_line_run.specs.Pairs.{OfEach}
@@ -37,5 +37,5 @@ abbrev pub IsFaultOfFour : Limits → (a b : Seen) → (room : ℕ) → (sink : 
     → (trusted_room : ℕ) → PairFault
     → Type 0
 IsFaultOfFour limits a b room sink s t trusted_room fault =
-    OfEach (IsReadFault limits a b room sink)
-    (λ fault. IsReadFault limits s t trusted_room ⊥ fault × AreSoundThere limits a) fault
+    OfEach (IsOneReadingFault limits a b room sink)
+    (λ fault. IsOneReadingFault limits s t trusted_room ⊥ fault × AreSoundThere limits a) fault

@@ -1,9 +1,12 @@
 use Rattle.std.proofs.Common.{◌≡◌, ◌∙◌, ap, arith, refl, sym, true, false}
 use Rattle.aide_db.specs.Count.{one_more}
 use Rattle.aide_db.specs.declared.side.Side.TheVariants.{Old, New}
-use Rattle.aide_merge.specs.declared.run_fault.RunFault.TheVariants.{Open}
+use Rattle.aide_merge.specs.Seen.{seen}
+use Rattle.aide_merge.specs.code.ReadFaults.{IsReadingFault}
+use Rattle.aide_merge.specs.declared.run_fault.RunFault.TheVariants.{Open, Database}
 use Rattle.aide_merge.proofs.FaultLemmas.{rose_since}
-use Rattle.aide_line_run.proofs.OneReadingLemmas.{fault_of_new, fault_of_old, rose_more}
+use Rattle.aide_line_run.proofs.OneReadingLemmas.{read_once, rose_more}
+use Rattle.aide_merge.proofs.ReadFaultLemmas.{fault_of_new, fault_of_old}
 use Rattle.aide_merge.proofs.FaultLemmas.{refused_first}
 use Rattle.aide_merge.proofs.KeepLemmas.{desk_none, desk_then}
 use Rattle.aide_merge.proofs.PenLemmas.{rose_by_one}
@@ -35,17 +38,20 @@ returns-in-Ok-read_old-clause-reads g c =
       desk = desk_then same (desk_none c.args.limits (s.bytes_of before) c.args.desk.now) c.read_old.ensures.desk;
       opens = tt;
       opens_some = record { of_old = omega (arith, of_old); of_new = omega (arith, of_new) };
-      fault = fault_of_new
+      fault = read_once New refl (fault_of_new
           (λ text told. c.in-Ok-read_old.ensures.sound text (ap (λ bytes. bytes Old) same ∙ told))
-          c.in-Ok.ensures.opened.refuses refl
+          c.in-Ok.ensures.opened.refuses
           (refused_first c.args.limits (s.bytes_of before) New (s.openings before) (s.openings after) (Open New) of_old of_new refl)
-          (ap (λ given. given New) c.read_old.ensures.given ∙ c.in-Err-open.ensures.refused.refused)
-          (rose_more (s.failures before) (s.failures opened) (s.failures after)
-          (rose_by_one _ _ _ (omega (arith, c.in-Ok.ensures.opened.ok)) fault) kept.never_falls)
-          (λ gone. refl)
-          (λ is. ap (λ bytes. bytes New) (sym c.open.ensures.keeps.same)
-          ∙ c.in-Err-open.ensures.refused.gives_none (c.open.ensures.keeps.reliable ∙ is))
-          (λ le. tt);
+          (record {
+            first = refl;
+            not_given = ap (λ given. given New) c.read_old.ensures.given ∙ c.in-Err-open.ensures.refused.refused;
+            caused = rose_more (s.failures before) (s.failures opened) (s.failures after)
+                (rose_by_one _ _ _ (omega (arith, c.in-Ok.ensures.opened.ok)) fault) kept.never_falls;
+            missing = λ gone. refl;
+            reliable = λ is. ap (λ bytes. bytes New) (sym c.open.ensures.keeps.same)
+                ∙ c.in-Err-open.ensures.refused.gives_none (c.open.ensures.keeps.reliable ∙ is);
+            memory = λ le. tt;
+          }));
     }
 
 pub returns-in-Err-read_old-clause-reads : goal.returns-in-Err-read_old-clause-reads
@@ -72,11 +78,16 @@ returns-in-Err-read_old-clause-reads g c =
       desk = desk_then same (desk_none c.args.limits (s.bytes_of before) c.args.desk.now) c.read_old.ensures.desk;
       opens = tt;
       opens_some = record { of_old = omega (arith, of_old); of_new = omega (arith, of_new) };
-      fault = fault_of_old
-          (fault.of_side, λ text told. fault.first text (ap (λ bytes. bytes Old) same ∙ told)) tt tt
-          (λ read. rose_since (s.failures before) (s.failures opened) (s.failures after)
-          (omega (arith, c.in-Ok.ensures.opened.ok, refused)) (fault.caused read))
-          (λ gone. absurd (true_false (sym gone ∙ c.in-Ok.ensures.opened.refuses)))
-          (λ is read. fault.reliable (c.open-2.ensures.keeps.reliable ∙ c.open.ensures.keeps.reliable ∙ is) read)
-          (λ le. fault.memory le);
+      fault =
+          let reading : IsReadingFault c.args.limits (seen s before) (seen s after) Old c.args.desk.now.room
+          (Database c.in-Err-read_old.fault) = record {
+            first = (fault.of_side, λ text told. fault.first text (ap (λ bytes. bytes Old) same ∙ told));
+            not_given = tt;
+            caused = λ read. rose_since (s.failures before) (s.failures opened) (s.failures after)
+                (omega (arith, c.in-Ok.ensures.opened.ok, refused)) (fault.caused read);
+            missing = λ gone. absurd (true_false (sym gone ∙ c.in-Ok.ensures.opened.refuses));
+            reliable = λ is read. fault.reliable (c.open-2.ensures.keeps.reliable ∙ c.open.ensures.keeps.reliable ∙ is) read;
+            memory = λ le. fault.memory le;
+          } in
+          read_once Old reading.first (fault_of_old tt reading);
     }

@@ -1,11 +1,8 @@
 use Rattle.std.proofs.Common.{◌∙◌, ap, arith, refl, sym, rules}
 use Rattle.aide_db.specs.declared.side.Side.TheVariants.{Old, New}
-use Rattle.aide_merge.specs.RightAnswer.{IsHindered}
-use Rattle.aide_text.specs.Failures.{Rose}
-use Rattle.aide_report.proofs.FaultLemmas.{answer_later, first_later, right_later}
+use Rattle.aide_report.proofs.FaultLemmas.{first_later}
 use Rattle.aide_report.proofs.GivenLemmas.{gave_then}
-use Rattle.aide_report.proofs.MissingLemmas.{later_over}
-use Rattle.aide_merge.proofs.AnswerLemmas.{stops_hindered}
+use Rattle.aide_report.proofs.MissingLemmas.{fault_of_pass}
 use Rattle.aide_report.proofs.PassLemmas.{fault_then}
 use Rattle.aide_merge.proofs.KeepLemmas.{sources_then}
 use Rattle.aide_merge.proofs.KeepLemmas.{clears_then}
@@ -27,7 +24,6 @@ returns-in-Err g c = record {
   found = tt;
   gave = search rules;
   fault = c.in-Err.ensures.fault;
-  over = c.in-Err.ensures.over;
   desk = c.read_both.ensures.desk;
 }
 
@@ -56,7 +52,6 @@ returns-in-Ok-count_pass g c = record {
       };
   gave = gave_then c.read_both.ensures.sources.at_same c.in-Ok.ensures.gave c.in-Ok-count_pass.ensures.gave;
   fault = tt;
-  over = λ wish old new told_old told_new r runs. tt;
   desk = clears_then c.read_both.ensures.sources.same c.read_both.ensures.desk c.count_pass.ensures.passes.desk;
 }
 
@@ -70,27 +65,12 @@ returns-in-Err-count_pass g c = record {
   found = tt;
   gave = search rules;
   fault =
-      let fault = c.in-Err-count_pass.fault in
-      let bytes_of = g.S.Sources.bytes_of c.args.sources.now in
       let is = fault_then 1 c.read_both.ensures.sources c.in-Ok.ensures.opens c.read_both.ensures.desk.room
       c.in-Err-count_pass.ensures.passes.fault in
       record {
-        right = right_later c.args.limits bytes_of c.in-Ok.ensures.read.sound fault is.later;
-        first = λ wish. answer_later c.args.limits wish bytes_of fault is.later;
-        opens_first = first_later c.args.limits bytes_of (g.S.Sources.openings c.args.sources.now)
-            (g.S.Sources.openings c.count_pass.new.sources) fault is.later;
-        refused = is.refused;
-        not_given = is.not_given;
-        caused = is.caused;
-        reliable = is.reliable;
-        memory = is.memory;
+        read = fault_of_pass c.in-Ok.ensures.read.there c.in-Ok.ensures.read.sound is;
+        opens_first = first_later c.args.limits (g.S.Sources.bytes_of c.args.sources.now) (g.S.Sources.openings c.args.sources.now)
+            (g.S.Sources.openings c.count_pass.new.sources) c.in-Err-count_pass.fault is.later;
       };
-  over = λ wish old new told_old told_new r runs.
-      let is = fault_then 1 c.read_both.ensures.sources c.in-Ok.ensures.opens c.read_both.ensures.desk.room
-      c.in-Err-count_pass.ensures.passes.fault in
-      let rose = Rose (g.S.Sources.failures c.args.sources.now) (g.S.Sources.failures c.count_pass.new.sources) in
-      stops_hindered r (IsHindered old new rose ⊥) c.in-Err-count_pass.fault
-      (later_over c.args.limits (g.S.Sources.bytes_of c.args.sources.now) (g.S.Sources.is_missing c.args.sources.now) old new rose ⊥
-      c.in-Err-count_pass.fault told_old told_new c.in-Ok.ensures.read.there c.in-Ok.ensures.read.sound is.later is.caused);
   desk = clears_then c.read_both.ensures.sources.same c.read_both.ensures.desk c.count_pass.ensures.passes.desk;
 }

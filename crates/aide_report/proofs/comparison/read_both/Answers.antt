@@ -1,11 +1,11 @@
-use Rattle.std.proofs.Common.{◌∙◌, refl, rules}
+use Rattle.std.proofs.Common.{◌∙◌, ap, refl, rules}
+use Rattle.aide_db.specs.Count.{one_more}
 use Rattle.aide_db.specs.declared.side.Side.TheVariants.{Old, New}
-use Rattle.aide_text.specs.Failures.{Rose}
-use Rattle.aide_report.proofs.FaultLemmas.{answer_new, answer_old}
+use Rattle.aide_merge.specs.Seen.{seen}
 use Rattle.aide_report.proofs.GivenLemmas.{gave_once}
-use Rattle.aide_report.proofs.MissingLemmas.{both_there, first_over, second_over}
+use Rattle.aide_report.proofs.MissingLemmas.{both_there}
 use Rattle.aide_merge.proofs.KeepLemmas.{clears, sources_none, sources_then}
-use Rattle.aide_report.proofs.ReadingLemmas.{clears_read, finding_first, reading_then}
+use Rattle.aide_report.proofs.ReadingLemmas.{clears_read, finding_new, finding_old, reading_then}
 use Rattle.aide_merge.proofs.SideLemmas.{of_sides}
 use Rattle.aide_report.proofs.comparison.read_both.Goals as goal
 
@@ -16,11 +16,8 @@ returns-in-Err g c = record {
   opens_some = search rules;
   read = tt;
   gave = search rules;
-  fault = search (rules, reading_then, sources_none, finding_first, answer_old);
-  over = λ wish old new told_old told_new r runs.
-      first_over c.args.limits wish (g.S.Sources.bytes_of c.args.sources.now) (g.S.Sources.is_missing c.args.sources.now) old new
-      (Rose (g.S.Sources.failures c.args.sources.now) (g.S.Sources.failures c.read_whole.new.sources)) c.in-Err.fault
-      told_old c.in-Err.ensures.fault.first c.in-Err.ensures.fault.caused c.in-Err.ensures.fault.missing r runs;
+  fault = finding_old (c.read_whole.ensures.opens.opens, c.read_whole.ensures.opens.others)
+      (reading_then (sources_none (seen g.S.Sources c.args.sources.now)) c.clear.ensures.room c.in-Err.ensures.fault);
   desk = clears_read Old refl
       (clears c.args.limits (g.S.Sources.bytes_of c.args.sources.now) c.args.desk.now c.clear.new.desk
       c.clear.ensures.old c.clear.ensures.new c.clear.ensures.peak c.clear.ensures.room)
@@ -34,14 +31,12 @@ returns-in-Err-read_whole g c = record {
   opens_some = search rules;
   read = tt;
   gave = search rules;
-  fault = search (rules, reading_then, finding_first, answer_new);
-  over = λ wish old new told_old told_new r runs.
-      let is = reading_then c.read_whole.ensures.sources (c.read_whole.ensures.room ∙ c.clear.ensures.room)
-      c.in-Err-read_whole.ensures.fault in
-      second_over c.args.limits wish (g.S.Sources.bytes_of c.args.sources.now) (g.S.Sources.is_missing c.args.sources.now) old new
-      (Rose (g.S.Sources.failures c.args.sources.now) (g.S.Sources.failures c.read_whole-2.new.sources)) c.in-Err-read_whole.fault
-      told_old told_new c.in-Ok.ensures.read.refuses (λ text told. (c.in-Ok.ensures.read.sound text told).0)
-      is.first is.caused is.missing r runs;
+  fault =
+      let first = c.read_whole.ensures.opens in
+      let second = c.read_whole-2.ensures.opens in
+      finding_new (second.others ∙ first.opens, second.opens ∙ ap one_more first.others)
+      (λ text told. (c.in-Ok.ensures.read.sound text told).0) c.in-Ok.ensures.read.refuses
+      (reading_then c.read_whole.ensures.sources (c.read_whole.ensures.room ∙ c.clear.ensures.room) c.in-Err-read_whole.ensures.fault);
   desk = let first = clears_read Old refl
       (clears c.args.limits (g.S.Sources.bytes_of c.args.sources.now) c.args.desk.now c.clear.new.desk
       c.clear.ensures.old c.clear.ensures.new c.clear.ensures.peak c.clear.ensures.room)
@@ -57,7 +52,6 @@ returns g c = record {
   read = search (rules, of_sides, both_there);
   gave = search (rules, gave_once, of_sides);
   fault = tt;
-  over = λ wish old new told_old told_new r runs. tt;
   desk = let first = clears_read Old refl
       (clears c.args.limits (g.S.Sources.bytes_of c.args.sources.now) c.args.desk.now c.clear.new.desk
       c.clear.ensures.old c.clear.ensures.new c.clear.ensures.peak c.clear.ensures.room)

@@ -24,7 +24,7 @@ pub returns-in-Err : goal.returns-in-Err
 returns-in-Err g c =
     run_stops c.args.limits (asked c.args.task.now) 2 (sink_seen g.W.Sink c.args.out.now) two_of_six
     (λ old new. two_and _) c.compare.ensures.sources c.compare.ensures.opens_some c.in-Err.ensures.fault
-    c.in-Err.ensures.over c.compare.ensures.desk
+    c.compare.ensures.desk
 
 pub returns-in-Ok-write_report : goal.returns-in-Ok-write_report
 unfolding most_sections fitting row_of row

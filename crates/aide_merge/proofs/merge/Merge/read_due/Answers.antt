@@ -1,4 +1,4 @@
-use Rattle.std.proofs.Common.{◌∙◌, List, ap, arith, is_some, refl, rules, ℕ}
+use Rattle.std.proofs.Common.{◌∙◌, List, ap, arith, is_some, rules, ℕ}
 use Rattle.std.proofs.lemmas.Result.{err_from_is_err_and}
 use Rattle.aide_db.specs.Desk.{desk_entry}
 use Rattle.aide_db.specs.declared.side.Side.TheVariants.{Old, New}
