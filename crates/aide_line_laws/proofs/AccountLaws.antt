@@ -20,7 +20,7 @@ use Rattle.aide_merge.specs.Changed.{differ_by}
 use Rattle.aide_merge.specs.Said.{all_listed, is_in}
 use Rattle.aide_line_run.specs.Lines.{by_trusted}
 use Rattle.aide_line_run.specs.Listed.{Leaves, account_by}
-use Rattle.aide_line_laws.specs.OverMaps.{no_entries}
+use Rattle.aide_line_run.specs.EmptyDatabase.{empty_database}
 use Rattle.aide_line_laws.proofs.ListLaws.{by_pairs}
 use Rattle.aide_line_laws.proofs.NoEntries.{no_entries_are_none}
 
@@ -62,7 +62,7 @@ is_same (Some same.Trusted) line e = refl
 pub trusted_is_listed : (options : Options) (leaves : Leaves) (trusted_old trusted_new : Database) (path : List ℕ) (found : Pair)
     → IgnoresNothing options.ignore → by_trusted leaves trusted_old trusted_new (path, found) ≡ Some Trusted
     → (is_in options all_listed (path, (get trusted_old path, get trusted_new path)) ≡ true)
-    × (by_pairs no_entries no_entries (path, (get trusted_old path, get trusted_new path)) ≡ None)
+    × (by_pairs empty_database empty_database (path, (get trusted_old path, get trusted_new path)) ≡ None)
 trusted_is_listed options leaves trusted_old trusted_new path found nothing e =
     let there : Pair = (get trusted_old path, get trusted_new path) in
     let own = trusted_changed found there (is_same (same_as found there) (leaves (path, found)) e) in

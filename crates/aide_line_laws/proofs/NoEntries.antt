@@ -6,13 +6,13 @@ use Rattle.aide_entry.specs.Attributes.{Attributes}
 use Rattle.aide_entry.specs.Lines.{kind_of, kind_of_field}
 use Rattle.aide_entry.specs.Path.{path_cmp}
 use Rattle.aide_entry.specs.Text.{fields, lines}
-use Rattle.aide_line_laws.specs.OverMaps.{no_entries}
+use Rattle.aide_line_run.specs.EmptyDatabase.{empty_database}
 
-no_line : entries_of no_entries ≡ []
-unfolding lines kind_of kind_of_field fields
+no_line : entries_of empty_database ≡ []
+unfolding empty_database lines kind_of kind_of_field fields
 no_line = refl
 
 -- The map of this text has nothing, at any path.
-pub no_entries_are_none : (path : List ℕ) → get (database_of no_entries) path ≡ None
+pub no_entries_are_none : (path : List ℕ) → get (database_of empty_database) path ≡ None
 no_entries_are_none path =
     ap (λ all. get (from_sorted {R = path_cmp} all) path) no_line ∙ get-from_sorted {X = Attributes} path_cmp [] path tt

@@ -7,12 +7,13 @@ use Rattle.aide_db.specs.declared.side.Side.TheVariants.{Old, New}
 use Rattle.aide_merge.specs.Outcomes.{outcome_over}
 use Rattle.aide_merge.specs.Seen.{SinkSeen}
 use Rattle.aide_merge.specs.declared.outcome.Outcome.{Outcome}
+use Rattle.aide_line_run.specs.EmptyDatabase.{empty_database}
 use Rattle.aide_line_run.specs.Lines.{lines_of_texts}
 use Rattle.aide_line_run.specs.Listed.{ListRead}
 use Rattle.aide_line_run.specs.PairSeen.{Gives, PairSeen}
 use Rattle.aide_line_run.specs.LinesRun.{IsLinesRun}
 use Rattle.aide_line_laws.specs.ByteValues.{AreBytes}
-use Rattle.aide_line_laws.specs.OverMaps.{HasSaidAll, left_out_of, no_entries}
+use Rattle.aide_line_laws.specs.OverMaps.{HasSaidAll, left_out_of}
 use Rattle.aide_line_laws.specs.TextFields.{fields_of_texts}
 use Rattle.aide_line_laws.proofs.JsonLaws.{ArePathsOfBytes, lines_are_complete, lines_are_json}
 use Rattle.aide_line_laws.proofs.MapLaws.{lines_of_texts_say_all}
@@ -64,7 +65,7 @@ a_trusted_run_says_all limits list p q o s old new trusted_old trusted_new gives
 -- After `Ok` a run over two texts of bytes has written lines that say all of their maps, by what the list leaves out, if both
 -- trusted texts are that of a database without entries: such a pair has nothing at any path.
 pub a_run_says_all : (limits : Limits) (list : ListRead) (p q : PairSeen) (o s : SinkSeen) (old new : List ℕ)
-    → Gives p old new → Gives q no_entries no_entries → AreBytes old → AreBytes new
+    → Gives p old new → Gives q empty_database empty_database → AreBytes old → AreBytes new
     → ArePathsOfBytes p.asked → ArePathsOfBytes q.asked → AreBytes list.digest
     → (outcome : Outcome) → IsLinesRun limits list p q o s (Ok outcome)
     → HasSaidAll p.asked.options.ignore (database_of old) (database_of new) (λ path. (None, None)) (left_out_of list old new)
@@ -72,5 +73,5 @@ pub a_run_says_all : (limits : Limits) (list : ListRead) (p q : PairSeen) (o s :
 a_run_says_all limits list p q o s old new gives none_gives old_bytes new_bytes paths others digest outcome run =
     subst (λ there. HasSaidAll p.asked.options.ignore (database_of old) (database_of new) there (left_out_of list old new)
     o.delivered s.delivered) (λ i path. (no_entries_are_none path i, no_entries_are_none path i))
-    (a_trusted_run_says_all limits list p q o s old new no_entries no_entries gives none_gives old_bytes new_bytes paths others
+    (a_trusted_run_says_all limits list p q o s old new empty_database empty_database gives none_gives old_bytes new_bytes paths others
     digest outcome run)

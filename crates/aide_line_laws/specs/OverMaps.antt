@@ -68,10 +68,6 @@ pub record IsAccount (found there : Pair) (leaves : (line : ℕ) → Type 0)
   pub from_left_out : (line : ℕ) → leaves line → (StayedAsOld found → ⊥)
       → (HappenedThere found there → ⊥) → account ≡ Some (LeftOut line)
 
--- the text of a database without entries
-abbrev pub no_entries : List ℕ
-no_entries = codes "@@begin_db\n@@db_spec name attr\n@@end_db\n"
-
 -- ---- lines
 
 -- the line is about the path

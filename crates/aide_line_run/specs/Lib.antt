@@ -1,4 +1,5 @@
 pub mod BeforeFault
+pub mod EmptyDatabase
 pub mod Lines
 pub mod RunEnds
 pub mod LinesRun

@@ -7,7 +7,7 @@ use Rattle.aide_db.specs.Count.{one_more}
 use Rattle.aide_db.specs.Side.{by_side}
 use Rattle.aide_db.specs.declared.side.Side.{Side}
 use Rattle.aide_session.specs.Files.{Files}
-use Rattle.aide_session.specs.Trusted.{empty_database}
+use Rattle.aide_line_run.specs.EmptyDatabase.{empty_database}
 use Rattle.aide_session.specs.declared.pointed.Aim.{Aim}
 use Rattle.aide_session.specs.declared.pointed.Aim.TheVariants.{Nowhere, Empty, At}
 

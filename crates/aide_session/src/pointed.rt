@@ -2,7 +2,7 @@
 ghost use Rattle.std.specs.Prelude.{◌≡◌, false, OnOk, OnErr};
 ghost use Rattle.aide_db.specs.Count.{one_more};
 ghost use Rattle.aide_db.specs.Side.{by_side, other_side};
-ghost use Rattle.aide_session.specs.Trusted.{empty_database};
+ghost use Rattle.aide_line_run.specs.EmptyDatabase.{empty_database};
 ghost use Rattle.aide_session.specs.declared.pointed.Aim.TheVariants.{Nowhere, At};
 
 use aide_db::Side;
@@ -21,7 +21,7 @@ pub(crate) enum Aim {
 }
 
 /// Returns the text of a database without entries.
-#[tactic(auto, unfolding(crate::specs::Trusted::empty_database))]
+#[tactic(auto, unfolding(aide_line_run::specs::EmptyDatabase::empty_database))]
 pub(crate) fn empty_database() -> &'static [u8]
     ensures { result.now ≡ empty_database }
 {

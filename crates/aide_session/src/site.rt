@@ -4,7 +4,7 @@ ghost use Rattle.std.specs.Prelude.{IfOk, OnOk, OnErr};
 ghost use Rattle.aide_db.specs.Count.{one_more};
 ghost use Rattle.aide_session.specs.Files.{GivesFile};
 ghost use Rattle.aide_session.specs.Pointing.{KeepsFiles, KeepsOthers, KeepsSides, KeepsSite};
-ghost use Rattle.aide_session.specs.Trusted.{empty_database};
+ghost use Rattle.aide_line_run.specs.EmptyDatabase.{empty_database};
 
 use aide_db::{Desk, OpenFault, Reel, Side, Sources};
 use aide_words::Memory;
