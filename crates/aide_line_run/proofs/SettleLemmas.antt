@@ -18,7 +18,7 @@ use Rattle.aide_merge.specs.code.Merging.{limits_at, remaining}
 use Rattle.aide_line_run.specs.code.OneReading.{IsFirstOfBoth}
 use Rattle.aide_merge.specs.declared.merge.Merge.{Merge}
 use Rattle.aide_merge.proofs.BoundLemmas.{fits_further}
-use Rattle.aide_merge.proofs.CallLemmas.{merge_none}
+use Rattle.aide_merge.proofs.CallLemmas.{merge_none, merge_then}
 use Rattle.aide_line_run.proofs.OneReadingLemmas.{settled_first}
 use Rattle.aide_merge.proofs.PenLemmas.{counts_of_pen, unfailed, written_of_pen}
 use Rattle.aide_merge.proofs.RoomLemmas.{still_fits}
@@ -40,6 +40,11 @@ use Rattle.aide_line_run.specs.declared.pair_fault.PairFault.{PairFault}
 use Rattle.aide_line_run.specs.declared.pair_fault.PairFault.TheVariants.{Compared, Trusted}
 
 -- ---- both desks
+
+-- the trusted merge was read on
+pub rest_kept : {R : Type 0} {r : Reels R} {m k : Merges R} {n : Merge R} {d e u v w : DeskView} → KeepsMerges r m k d e u v
+    → KeepsMerge r k.trusted n v w → KeepsMerges r m (record { compared = k.compared; trusted = n }) d e u w
+rest_kept p q = record { compared = p.compared; trusted = merge_then p.trusted q }
 
 pub fits_kept : {R : Type 0} {r : Reels R} {m n : Merges R} {d e u v : DeskView} → KeepsMerges r m n d e u v
     → FitsMerges r m d e u v

@@ -9,7 +9,7 @@ ghost use Rattle.aide_line_run.specs.code.Settled.{IsPairStopped, IsSettledStop}
 ghost use Rattle.aide_line_run.specs.code.Walked.{CanWalk, HasEnded, HasWalked, KeepsMerges};
 ghost use Rattle.aide_merge.specs.code.Merging.{IsReady};
 
-use crate::walk::{Merges, PairStop, Terms, read_rest, walk};
+use crate::walk::{Merges, PairStop, Terms, put_accounted, read_rest};
 use aide_db::{DbFault, Desk, Reel};
 use aide_line_text::LineCounts;
 use aide_merge::{Merge, settled};
@@ -81,8 +81,12 @@ pub(crate) fn put_all_accounted<R: Reel, W: Sink, A: Allocator + Copy>(
     ensures fault { IfErr result (IsSettledStop R.Reel merges.old merges.new
         desk.old trusted_desk.old pen.new) }
 {
-    match walk(merges, desk, trusted_desk, out, pen, terms) {
-        Ok(counts) => Ok(counts),
-        Err(stop) => Err(settle(merges, desk, trusted_desk, stop)),
+    let counts = match put_accounted(merges, desk, trusted_desk, out, pen, terms) {
+        Ok(counts) => counts,
+        Err(stop) => return Err(settle(merges, desk, trusted_desk, stop)),
+    };
+    match read_rest(&mut merges.trusted, trusted_desk) {
+        Ok(()) => Ok(counts),
+        Err(fault) => Err(settle(merges, desk, trusted_desk, PairStop::Trusted(fault))),
     }
 }

@@ -7,8 +7,7 @@ ghost use Rattle.aide_text.specs.PenSheet.{on_sheet};
 ghost use Rattle.aide_line_run.specs.ListView.{list_read};
 ghost use Rattle.aide_line_run.specs.code.Calls.{IsPairStop};
 ghost use Rattle.aide_line_run.specs.code.Settled.{IsPairStopped};
-ghost use Rattle.aide_line_run.specs.code.Walked.{CanWalk, HasEnded, HasWalked, IsAtEnd};
-ghost use Rattle.aide_line_run.specs.code.Walked.{KeepsMerges};
+ghost use Rattle.aide_line_run.specs.code.Walked.{CanWalk, HasWalked, IsAtEnd, KeepsMerges};
 
 use crate::change_lines::put_counted;
 use crate::line_counts::no_counts;
@@ -46,7 +45,7 @@ pub(crate) enum PairStop {
 
 /// Writes the lines of all changes, and counts them: over the compared pair to its ends, and over the trusted pair to
 /// the path of the last change.
-fn put_accounted<R: Reel, W: Sink, A: Allocator + Copy>(
+pub(crate) fn put_accounted<R: Reel, W: Sink, A: Allocator + Copy>(
     merges: &mut Merges<R>,
     desk: &mut Desk<A>,
     trusted_desk: &mut Desk<A>,
@@ -115,35 +114,5 @@ pub(crate) fn read_rest<R: Reel, A: Allocator + Copy>(
             AtPath::Alike => {}
             AtPath::End => return Ok(()),
         }
-    }
-}
-
-/// Writes and counts the lines of all changes, and reads both pairs to their ends.
-pub(crate) fn walk<R: Reel, W: Sink, A: Allocator + Copy>(
-    merges: &mut Merges<R>,
-    desk: &mut Desk<A>,
-    trusted_desk: &mut Desk<A>,
-    out: &mut W,
-    pen: &mut Pen,
-    terms: &Terms<'_>,
-) -> Result<LineCounts, PairStop>
-    requires { CanWalk merges.old desk.old trusted_desk.old pen.old }
-    ensures keeps { KeepsMerges R.Reel merges.old merges.new desk.old desk.new
-        trusted_desk.old trusted_desk.new }
-    ensures walked { HasWalked R.Reel (list_read terms.now.list) terms.now.options.now []
-        (λ counts. counts) merges.old desk.old trusted_desk.old
-        (on_sheet W.Sink out.old pen.old) (on_sheet W.Sink out.new pen.new) result }
-    ensures ended { OnOk result (HasEnded merges.new pen.new) }
-    ensures fault { IfErr result (IsPairStop R.Reel merges.old merges.new
-        desk.old trusted_desk.old pen.new) }
-    ensures stopped { IfErr result (IsPairStopped R.Reel merges.new desk.new) }
-{
-    let counts = match put_accounted(merges, desk, trusted_desk, out, pen, terms) {
-        Ok(counts) => counts,
-        Err(stop) => return Err(stop),
-    };
-    match read_rest(&mut merges.trusted, trusted_desk) {
-        Ok(()) => Ok(counts),
-        Err(fault) => Err(PairStop::Trusted(fault)),
     }
 }
