@@ -37,6 +37,8 @@ use Rattle.aide_merge.specs.declared.merge.NextEntry.{NextEntry}
 use Rattle.aide_merge.specs.declared.merge.NextEntry.TheVariants.{Due, Here, Ended as AtEnd}
 use Rattle.aide_merge.proofs.ColumnLemmas.{here_or_ended, new_columns, none_at, old_columns}
 use Rattle.aide_line_run.specs.BeforeFault.{EndsAtFault, IsBeforeFault}
+use Rattle.aide_line_run.specs.Sought.{seek}
+use Rattle.aide_line_run.specs.code.Calls.{IsSought}
 use Rattle.aide_line_run.specs.code.Over.{ReadsUpTo}
 use Rattle.aide_line_run.proofs.FrontLines.{amid_front, entries_at, fewer_entries, head_more, head_of, heads_cut, same_used}
 
@@ -209,3 +211,18 @@ front_same {r = r} {m = m} {n = n} {d = d} {e = e} ready within keeps read old n
     (new_gives to_come n e read.ready (read.within within) t.0 (keeps.stands New t.0 t.1)) (keeps.limits New)
     (read.new_ahead t.0 t.1) t.2 in
     λ i. merged path_cmp (sym old_same i) (sym new_same i)
+
+-- a merge has come to a path if no change that is still to come is before it
+pub comes_to : {R : Type 0} {r : Reels R} {path : List ℕ} {m n k : Merge R} {d e f : DeskView} → KeepsMerge r m n d e → IsReady n e
+    → IsWithinLimits n → KeepsMerge r n k e f → HasRead r n k e f
+    → ((old new : List ℕ) → ReadsUpTo r.to_come m d Old old → ReadsUpTo r.to_come m d New new
+    → seek path (remaining m d old new) ≡ seek path (remaining n e old new))
+    → ((old new : List ℕ) → remaining k f old new ≡ seek path (remaining k f old new)) → IsSought r path m k d f
+comes_to {path = path} keeps ready within kept read same here = record {
+  ready = read.ready;
+  not_due = read.not_due;
+  within = read.within within;
+  same = λ old new s t. here old new
+      ∙ sym (ap (seek path) (front_same ready within kept read old new (reads_on keeps Old old s) (reads_on keeps New new t)))
+      ∙ sym (same old new s t);
+}

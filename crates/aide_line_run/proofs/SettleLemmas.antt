@@ -32,7 +32,10 @@ use Rattle.aide_line_run.specs.Sought.{sought_by}
 use Rattle.aide_line_run.specs.code.Calls.{IsPairStop}
 use Rattle.aide_line_run.specs.code.Settled.{AreReadSound, FitsMerges, IsFirstStop, IsPairStopped, IsSettledStop}
 use Rattle.aide_line_run.specs.code.Walked.{HasWalked, KeepsMerges}
-use Rattle.aide_line_run.specs.code.Written.{IsFirstFault, pair_fault_of}
+use Rattle.aide_line_run.specs.Lines.{first_line}
+use Rattle.aide_line_run.specs.code.Written.{ArePairsRead, HasToldAll, IsFirstFault, lines_found, pair_fault_of}
+use Rattle.aide_line_run.specs.declared.write.PairsFound.{PairsFound}
+use Rattle.aide_merge.specs.Asked.{Asked}
 use Rattle.aide_line_run.specs.declared.walk.Merges.{Merges}
 use Rattle.aide_line_run.specs.declared.walk.PairStop.{PairStop}
 use Rattle.aide_line_run.specs.declared.walk.PairStop.TheVariants as stop
@@ -131,6 +134,21 @@ walked_found answer found also_in same p = record {
   wrote = p.wrote;
   counted = same ∙ p.counted;
   counts = λ old new trusted_old trusted_new s t x y in_order. same ∙ p.counts old new trusted_old trusted_new s t x y in_order;
+}
+
+-- all lines were made of what was walked and read
+pub has_told : {R E : Type 0} {r : Reels R} {list : ListRead} {wish trusted : Asked} {m n : Merges R} {d e u v : DeskView} {a b : Sheet}
+    {found : PairsFound} {Goes : List ℕ → Type 0}
+    → (walked : HasWalked {E = E} r list wish.options (first_line wish trusted) (λ found. found.counts) m d u a b (Ok found))
+    → ArePairsRead r m n d e u v found → Goes (lines_found list wish trusted walked.done found)
+    → HasToldAll r list wish trusted m n d e u v found Goes
+has_told walked read goes = record {
+  read = read;
+  done = walked.done;
+  are = record { changes = walked.are.changes; lines = walked.are.lines };
+  counted = walked.counted;
+  counts = walked.counts;
+  goes = goes;
 }
 
 -- ---- the fault that is returned

@@ -14,25 +14,28 @@ use Rattle.aide_line_text.specs.declared.counts.LineCounts.{LineCounts}
 use Rattle.aide_merge.specs.Said.{PathChange}
 use Rattle.aide_merge.specs.code.ChangeView.{alike_of}
 use Rattle.aide_line_run.specs.code.LineTally.{sum_of_counts}
+use Rattle.aide_merge.specs.code.MergeCalls.{HasRead, IsStep, KeepsMerge}
 use Rattle.aide_merge.specs.code.Merging.{IsNotDue, IsReady, IsWithinLimits, remaining}
+use Rattle.aide_merge.specs.declared.change.AtPath.{AtPath}
 use Rattle.aide_merge.specs.declared.merge.Merge.{Merge}
 use Rattle.aide_text.specs.Sheet.{Sheet, Wrote}
 use Rattle.aide_text.proofs.Sheets.{wrote_as, wrote_more, wrote_nothing}
 use Rattle.aide_line_run.specs.ListView.{measures_at}
-use Rattle.aide_line_run.specs.Listed.{ListRead, account_by, leaves_between, measures_between, measures_by}
+use Rattle.aide_line_run.specs.Listed.{ListRead, account_by, leaves_between, left_by, measures_between, measures_by}
 use Rattle.aide_line_run.specs.Sought.{Accounted, accounted_line, accounted_lines, all_sought, changes_of, found_at, seek, sought_by}
+use Rattle.aide_line_run.specs.code.Calls.{IsSought}
 use Rattle.aide_line_run.specs.code.Over.{ReadsUpTo}
 use Rattle.aide_line_run.specs.code.Tallied.{tally_of}
 use Rattle.aide_line_run.specs.code.Walked.{HasWalked, IsWalking, KeepsMerges}
 use Rattle.aide_line_run.specs.declared.walk.Merges.{Merges}
 use Rattle.aide_line_run.specs.declared.walk.PairStop.{PairStop}
-use Rattle.aide_line_run.proofs.FrontLemmas.{new_front_columns, old_front_columns, reads_on}
+use Rattle.aide_line_run.proofs.FrontLemmas.{front_same, new_front_columns, old_front_columns, reads_on}
 use Rattle.aide_line_run.proofs.SoughtLemmas.{alike_sought, none_sought, one_sought, sorted_rest, sought_alike, sought_more}
 use Rattle.aide_line_run.proofs.TallyLemmas.{line_alike, lines_next, lines_of_sought, tally_alike, tally_more, tally_next, tally_none}
 use Rattle.aide_line_run.proofs.TallyLemmas.{tally_pairs, tally_start}
 
 -- what a merge that has read what was due measures is what its texts do, also once it has passed on a path
-pub measures_known : {R : Type 0} (to_come : R → Option (List ℕ)) (m n : Merge R) (d : DeskView) (old new : List ℕ)
+measures_known : {R : Type 0} (to_come : R → Option (List ℕ)) (m n : Merge R) (d : DeskView) (old new : List ℕ)
     → IsReady m d → IsWithinLimits m → IsNotDue m → n.old_cursor ≡ m.old_cursor → n.new_cursor ≡ m.new_cursor
     → ReadsUpTo to_come m d Old old → ReadsUpTo to_come m d New new → measures_at n ≡ measures_between old new
 measures_known {R = R} to_come m n d old new ready within not_due same_old same_new s t = λ i. measures_by
@@ -60,62 +63,61 @@ module _ {R : Type 0} (r : Reels R) (list : ListRead) (options : Options) (m : M
 
   module _ {n : Merges R} {e v : DeskView} {counts : LineCounts} {a b : Sheet}
       (p : IsWalking r list options m n d e u v counts a b) (keeps : KeepsMerges r m n d e u v) where
-    -- one change more
-    pub walk_more : (c : PathChange) (account : Option Account) (changes : List PathChange) (k : Merges R) (f w : DeskView)
-        (after : LineCounts) (z : Sheet)
-        → ((old new : List ℕ) → ReadsUpTo r.to_come n.compared e Old old → ReadsUpTo r.to_come n.compared e New new
-        → remaining n.compared e old new ≡ changes ++ remaining k.compared f old new)
-        → changes ≡ c ∷ []
-        → ((old new : List ℕ) → ReadsUpTo r.to_come n.trusted v Old old → ReadsUpTo r.to_come n.trusted v New new
-        → remaining k.trusted w old new ≡ seek c.0 (remaining n.trusted v old new))
-        → ((old new trusted_old trusted_new : List ℕ) → ReadsUpTo r.to_come n.compared e Old old
-        → ReadsUpTo r.to_come n.compared e New new
-        → account ≡ account_by (same_as c.1 (found_at c.0 (remaining k.trusted w trusted_old trusted_new)))
-        (leaves_between list old new c))
+    -- one change more: the compared merge was read and has passed on, and the trusted one has come to the path
+    pub walk_more : (c : PathChange) (account : Option Account) {l k w : Merge R} {f g : DeskView} {path : AtPath}
+        {after : LineCounts} {z : Sheet}
+        → IsReady n.compared e → IsWithinLimits n.compared → KeepsMerge r n.compared l e f → HasRead r n.compared l e f
+        → (step : IsStep l k f path) → step.changes ≡ c ∷ []
+        → k.old_cursor ≡ l.old_cursor → k.new_cursor ≡ l.new_cursor → IsSought r c.0 n.trusted w v g
+        → ((trusted_old trusted_new : List ℕ) → account ≡ account_by
+        (same_as c.1 (found_at c.0 (remaining w g trusted_old trusted_new))) (left_by list (measures_at k) c))
         → after ≡ sum_of_counts counts (tally_of options ((c, account) ∷ []))
         → Wrote (accounted_line options (c, account)) b z
-        → IsWalking r list options m k d f u w after a z
-    walk_more c account changes k f w after z gives one sought told grows wrote =
+        → IsWalking r list options m (record { compared = k; trusted = w }) d f u g after a z
+    walk_more c account {l} {k} {w} {f} {g} {after = after} ready within kept read step one old_same new_same sought told grows wrote =
+        let changes = step.changes in
         let next : (old new : List ℕ) → ReadsUpTo r.to_come m.compared d Old old → ReadsUpTo r.to_come m.compared d New new
-        → remaining n.compared e old new ≡ changes ++ remaining k.compared f old new =
-        λ old new s t. gives old new (reads_on keeps.compared Old old s) (reads_on keeps.compared New new t) in
-        let sought : (old new : List ℕ) → ReadsUpTo r.to_come m.trusted u Old old → ReadsUpTo r.to_come m.trusted u New new
-        → remaining k.trusted w old new ≡ seek c.0 (remaining n.trusted v old new) =
-        λ old new s t. sought old new (reads_on keeps.trusted Old old s) (reads_on keeps.trusted New new t) in
+        → remaining n.compared e old new ≡ changes ++ remaining k f old new =
+        λ old new s t. front_same ready within kept read old new (reads_on keeps.compared Old old s) (reads_on keeps.compared New new t)
+        ∙ step.gives old new in
+        let here : (old new : List ℕ) → ReadsUpTo r.to_come m.trusted u Old old → ReadsUpTo r.to_come m.trusted u New new
+        → remaining w g old new ≡ seek c.0 (remaining n.trusted v old new) =
+        λ old new s t. sought.same old new (reads_on keeps.trusted Old old s) (reads_on keeps.trusted New new t) in
         let means : (old new trusted_old trusted_new : List ℕ) → ReadsUpTo r.to_come m.compared d Old old
         → ReadsUpTo r.to_come m.compared d New new
-        → account ≡ account_by (same_as c.1 (found_at c.0 (remaining k.trusted w trusted_old trusted_new)))
-        (leaves_between list old new c) =
-        λ old new trusted_old trusted_new s t.
-        told old new trusted_old trusted_new (reads_on keeps.compared Old old s) (reads_on keeps.compared New new t) in
+        → account ≡ account_by (same_as c.1 (found_at c.0 (remaining w g trusted_old trusted_new))) (leaves_between list old new c) =
+        λ old new trusted_old trusted_new s t. told trusted_old trusted_new
+        ∙ ap (λ measures. account_by (same_as c.1 (found_at c.0 (remaining w g trusted_old trusted_new))) (left_by list measures c))
+        (measures_known r.to_come l k f old new read.ready (read.within within) read.not_due old_same new_same
+        (reads_on kept Old old (reads_on keeps.compared Old old s)) (reads_on kept New new (reads_on keeps.compared New new t))) in
         record {
           done = p.done ++ (c, account) ∷ [];
           wrote = wrote_as (lines_next options p.done (c, account)) (wrote_more p.wrote wrote);
           counted = tally_next options counts after p.done (c, account) p.counted grows;
           changes = λ old new s t. p.changes old new s t
-              ∙ ap (λ l. changes_of p.done ++ l) (next old new s t ∙ ap (λ l. l ++ remaining k.compared f old new) one)
-              ∙ changes_next p.done (c, account) (remaining k.compared f old new);
+              ∙ ap (λ l. changes_of p.done ++ l) (next old new s t ∙ ap (λ l. l ++ remaining k f old new) one)
+              ∙ changes_next p.done (c, account) (remaining k f old new);
           lines = λ old new trusted_old trusted_new s t x y in_order.
-              let rest = accounted_lines options (all_sought (leaves_between list old new) (remaining k.compared f old new)
-              (remaining k.trusted w trusted_old trusted_new)) in
+              let rest = accounted_lines options (all_sought (leaves_between list old new) (remaining k f old new)
+              (remaining w g trusted_old trusted_new)) in
               p.lines old new trusted_old trusted_new s t x y in_order
               ∙ ap (λ l. accounted_lines options p.done ++ l)
               (one_sought (accounted_line options) (leaves_between list old new) c (remaining n.compared e old new) changes
-              (remaining k.compared f old new)
-              (remaining n.trusted v trusted_old trusted_new) (remaining k.trusted w trusted_old trusted_new) account
-              (next old new s t) one (sought trusted_old trusted_new x y) (means old new trusted_old trusted_new s t)
+              (remaining k f old new)
+              (remaining n.trusted v trusted_old trusted_new) (remaining w g trusted_old trusted_new) account
+              (next old new s t) one (here trusted_old trusted_new x y) (means old new trusted_old trusted_new s t)
               (p.sorted old new s t in_order))
               ∙ sym (append_assoc (accounted_lines options p.done) (accounted_line options (c, account)) rest)
               ∙ ap (λ l. l ++ rest) (lines_next options p.done (c, account));
           tallies = λ old new trusted_old trusted_new s t x y in_order.
               tally_more options counts after _ (c, account) _ _
               (sought_more (leaves_between list old new) c (remaining n.compared e old new) changes
-              (remaining k.compared f old new)
-              (remaining n.trusted v trusted_old trusted_new) (remaining k.trusted w trusted_old trusted_new) account
-              (next old new s t) one (sought trusted_old trusted_new x y) (means old new trusted_old trusted_new s t)
+              (remaining k f old new)
+              (remaining n.trusted v trusted_old trusted_new) (remaining w g trusted_old trusted_new) account
+              (next old new s t) one (here trusted_old trusted_new x y) (means old new trusted_old trusted_new s t)
               (p.sorted old new s t in_order))
               grows (p.tallies old new trusted_old trusted_new s t x y in_order);
-          sorted = λ old new s t in_order. sorted_rest c (remaining n.compared e old new) changes (remaining k.compared f old new)
+          sorted = λ old new s t in_order. sorted_rest c (remaining n.compared e old new) changes (remaining k f old new)
               (next old new s t) one (p.sorted old new s t in_order);
         }
 

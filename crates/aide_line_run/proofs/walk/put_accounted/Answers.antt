@@ -1,18 +1,12 @@
-use Rattle.std.proofs.Common.{◌∙◌, ◌<◌, ◌^◌, ap, arith, refl, rules}
+use Rattle.std.proofs.Common.{◌∙◌, ◌<◌, ◌^◌, arith, refl, rules}
 use Rattle.std.specs.Prelude.{None}
 use Rattle.aide_merge.specs.code.ChangeView.{alike_of, change_of}
 use Rattle.aide_merge.specs.code.Merging.{total_work}
-use Rattle.aide_text.specs.PenSheet.{on_sheet}
 use Rattle.aide_merge.proofs.CallLemmas.{merge_fault, merge_none, merge_then}
 use Rattle.aide_line_run.proofs.TallyLemmas.{below_all, small_more, small_start, tally_alike}
-use Rattle.aide_agreement.specs.Account.{same_as}
-use Rattle.aide_db.specs.declared.side.Side.TheVariants.{Old, New}
-use Rattle.aide_merge.specs.code.Merging.{remaining}
 use Rattle.aide_line_run.specs.ListView.{list_read}
-use Rattle.aide_line_run.specs.Listed.{account_by, left_by}
-use Rattle.aide_line_run.specs.Sought.{found_at}
-use Rattle.aide_line_run.proofs.FrontLemmas.{front_same, reads_on}
-use Rattle.aide_line_run.proofs.WalkLemmas.{measures_known, walk_alike, walk_ended, walk_more, walk_start, walk_stopped}
+use Rattle.aide_line_run.proofs.FrontLemmas.{front_same}
+use Rattle.aide_line_run.proofs.WalkLemmas.{walk_alike, walk_ended, walk_more, walk_start, walk_stopped}
 use Rattle.aide_line_run.proofs.walk.put_accounted.Goals as goal
 
 pub pass-init : goal.pass-init
@@ -64,24 +58,13 @@ returns-then-pen-clause-keeps g c = search (rules, merge_then)
 pub returns-then-pen-clause-walked : goal.returns-then-pen-clause-walked
 returns-then-pen-clause-walked g c =
     let step = c.in-Differs.ensures.step in
-    let change = change_of c.in-Differs.change in
     walk_stopped g.R.Reel (list_read c.args.terms.now.list) c.args.terms.now.options.now c.args.merges.now c.args.desk.now
     c.args.trusted_desk.now
     (walk_more g.R.Reel (list_read c.args.terms.now.list) c.args.terms.now.options.now c.args.merges.now c.args.desk.now
-    c.args.trusted_desk.now c.pass.invariant.walking
-    c.pass.invariant.keeps change c.account_of-account.result step.changes
-    (record { compared = c.next.new.self; trusted = c.seek.new.merge }) c.read_due.new.desk c.seek.new.desk c.put_counted.new.counts
-    (on_sheet g.W.Sink c.put_counted.new.out c.put_counted.new.pen)
-    (λ old new s t. front_same c.pass.invariant.ready c.pass.invariant.within c.read_due.ensures.keeps
-    c.in_default.ensures.read old new s t ∙ step.gives old new) step.shows
-    c.in_default-seek.ensures.sought.same (λ old new trusted_old trusted_new s t. c.account_of-account.ensures trusted_old trusted_new
-    ∙ ap (λ m. account_by (same_as change.1 (found_at change.0 (remaining c.seek.new.merge c.seek.new.desk trusted_old trusted_new)))
-    (left_by (list_read c.args.terms.now.list) m change))
-    (measures_known g.R.Reel.to_come c.read_due.new.self c.next.new.self c.read_due.new.desk old new c.in_default.ensures.read.ready
-    (c.in_default.ensures.read.within c.pass.invariant.within) c.in_default.ensures.read.not_due c.next.ensures.old_cursor
-    c.next.ensures.new_cursor (reads_on c.read_due.ensures.keeps Old old s) (reads_on c.read_due.ensures.keeps New new t)))
-    c.put_counted.ensures.counted
-    c.put_counted.ensures.wrote)
+    c.args.trusted_desk.now c.pass.invariant.walking c.pass.invariant.keeps (change_of c.in-Differs.change) c.account_of-account.result
+    c.pass.invariant.ready c.pass.invariant.within c.read_due.ensures.keeps c.in_default.ensures.read step step.shows
+    c.next.ensures.old_cursor c.next.ensures.new_cursor c.in_default-seek.ensures.sought c.account_of-account.ensures
+    c.put_counted.ensures.counted c.put_counted.ensures.wrote)
     (record {
       compared = merge_then c.pass.invariant.keeps.compared (merge_then c.read_due.ensures.keeps c.next.ensures.keeps);
       trusted = merge_then c.pass.invariant.keeps.trusted c.seek.ensures.keeps;
@@ -90,7 +73,6 @@ returns-then-pen-clause-walked g c =
 pub pass-preserved-else-pen : goal.pass-preserved-else-pen
 pass-preserved-else-pen g c =
     let step = c.in-Differs.ensures.step in
-    let change = change_of c.in-Differs.change in
     let fewer : total_work c.next.new.self < total_work c.pass.merges.compared =
     omega (arith, step.falls (λ e. cc), c.in_default.ensures.read.falls) in
     record {
@@ -99,7 +81,7 @@ pass-preserved-else-pen g c =
       within = step.within (c.in_default.ensures.read.within c.pass.invariant.within);
       trusted_within = c.in_default-seek.ensures.sought.within;
       small = small_more c.args.terms.now.options.now c.pass.counts c.put_counted.new.counts
-          (change, c.account_of-account.result) (2 ^ 62)
+          (change_of c.in-Differs.change, c.account_of-account.result) (2 ^ 62)
           (total_work c.pass.merges.compared) (total_work c.next.new.self) fewer c.put_counted.ensures.counted c.pass.invariant.small;
       writes_on = c.if-pen.false;
       keeps = record {
@@ -107,20 +89,11 @@ pass-preserved-else-pen g c =
         trusted = merge_then c.pass.invariant.keeps.trusted c.seek.ensures.keeps;
       };
       walking = walk_more g.R.Reel (list_read c.args.terms.now.list) c.args.terms.now.options.now c.args.merges.now c.args.desk.now
-          c.args.trusted_desk.now c.pass.invariant.walking
-          c.pass.invariant.keeps change c.account_of-account.result step.changes
-          (record { compared = c.next.new.self; trusted = c.seek.new.merge }) c.read_due.new.desk c.seek.new.desk c.put_counted.new.counts
-          (on_sheet g.W.Sink c.put_counted.new.out c.put_counted.new.pen)
-          (λ old new s t. front_same c.pass.invariant.ready c.pass.invariant.within c.read_due.ensures.keeps
-          c.in_default.ensures.read old new s t ∙ step.gives old new) step.shows
-          c.in_default-seek.ensures.sought.same (λ old new trusted_old trusted_new s t. c.account_of-account.ensures trusted_old trusted_new
-          ∙ ap (λ m. account_by (same_as change.1 (found_at change.0 (remaining c.seek.new.merge c.seek.new.desk trusted_old trusted_new)))
-          (left_by (list_read c.args.terms.now.list) m change))
-          (measures_known g.R.Reel.to_come c.read_due.new.self c.next.new.self c.read_due.new.desk old new c.in_default.ensures.read.ready
-          (c.in_default.ensures.read.within c.pass.invariant.within) c.in_default.ensures.read.not_due c.next.ensures.old_cursor
-          c.next.ensures.new_cursor (reads_on c.read_due.ensures.keeps Old old s) (reads_on c.read_due.ensures.keeps New new t)))
-          c.put_counted.ensures.counted
-          c.put_counted.ensures.wrote;
+          c.args.trusted_desk.now c.pass.invariant.walking c.pass.invariant.keeps (change_of c.in-Differs.change)
+          c.account_of-account.result c.pass.invariant.ready c.pass.invariant.within c.read_due.ensures.keeps
+          c.in_default.ensures.read step step.shows c.next.ensures.old_cursor c.next.ensures.new_cursor
+          c.in_default-seek.ensures.sought c.account_of-account.ensures
+          c.put_counted.ensures.counted c.put_counted.ensures.wrote;
     }
 
 pub pass-preserved : goal.pass-preserved

@@ -6,7 +6,7 @@ use Rattle.aide_merge.proofs.PenLemmas.{count_of_pen, counts_of_pen, flushed_cou
 use Rattle.aide_merge.proofs.PenLemmas.{flushed_whole, never_falls}
 use Rattle.aide_merge.proofs.PenLemmas.{rose_by_one, rose_of_pen, unfailed}
 use Rattle.aide_merge.specs.declared.run_fault.RunFault.TheVariants.{Write}
-use Rattle.aide_line_run.proofs.SettleLemmas.{first_of_stop, pair_counts, pair_written, stop_written}
+use Rattle.aide_line_run.proofs.SettleLemmas.{first_of_stop, has_told, pair_counts, pair_written, stop_written}
 use Rattle.aide_line_run.proofs.write.write_lines.Goals as goal
 
 pub put_changes-requires : goal.put_changes-requires
@@ -53,14 +53,8 @@ returns-then-pen-clause-cut g c =
     inr (record {
       written = tt;
       found = c.in-Ok.found;
-      told = record {
-        read = c.in-Ok.ensures.read;
-        done = walked.done;
-        are = record { changes = walked.are.changes; lines = walked.are.lines };
-        counted = walked.counted;
-        counts = walked.counts;
-        goes = wrote_part (ap (λ pen. pen.failed) c.new-pen.ensures) (part_whole (wrote_more walked.wrote c.put_last.ensures));
-      };
+      told = has_told walked c.in-Ok.ensures.read
+          (wrote_part (ap (λ pen. pen.failed) c.new-pen.ensures) (part_whole (wrote_more walked.wrote c.put_last.ensures)));
     })
 
 pub returns-then-pen-clause-fault : goal.returns-then-pen-clause-fault
@@ -88,15 +82,9 @@ returns-in-Err-flush-clause-cut g c =
     inr (record {
       written = tt;
       found = c.in-Ok.found;
-      told = record {
-        read = c.in-Ok.ensures.read;
-        done = walked.done;
-        are = record { changes = walked.are.changes; lines = walked.are.lines };
-        counted = walked.counted;
-        counts = walked.counts;
-        goes = flushed_part (g.W.Sink.delivered c.flush.new.self) (ap (λ pen. pen.failed) c.new-pen.ensures) c.if-pen.false
-            (wrote_more walked.wrote c.put_last.ensures) c.flush.ensures.bytes;
-      };
+      told = has_told walked c.in-Ok.ensures.read
+          (flushed_part (g.W.Sink.delivered c.flush.new.self) (ap (λ pen. pen.failed) c.new-pen.ensures) c.if-pen.false
+          (wrote_more walked.wrote c.put_last.ensures) c.flush.ensures.bytes);
     })
 
 pub returns-in-Err-flush-clause-fault : goal.returns-in-Err-flush-clause-fault
@@ -121,15 +109,9 @@ returns-in-Err-flush-clause-sink g c =
 pub returns-clause-told : goal.returns-clause-told
 returns-clause-told g c =
     let walked = c.in-Ok.ensures.walked in
-    record {
-      read = c.in-Ok.ensures.read;
-      done = walked.done;
-      are = record { changes = walked.are.changes; lines = walked.are.lines };
-      counted = walked.counted;
-      counts = walked.counts;
-      goes = flushed_whole (g.W.Sink.delivered c.flush.new.self) (ap (λ pen. pen.failed) c.new-pen.ensures) c.if-pen.false
-          (wrote_more walked.wrote c.put_last.ensures) c.flush.ensures.bytes;
-    }
+    has_told walked c.in-Ok.ensures.read
+    (flushed_whole (g.W.Sink.delivered c.flush.new.self) (ap (λ pen. pen.failed) c.new-pen.ensures) c.if-pen.false
+    (wrote_more walked.wrote c.put_last.ensures) c.flush.ensures.bytes)
 
 pub returns-clause-sink : goal.returns-clause-sink
 returns-clause-sink g c =
