@@ -7,5 +7,6 @@ mod headline;
 mod lines;
 mod pages;
 mod session;
+mod summary;
 mod trusted;
 mod words;

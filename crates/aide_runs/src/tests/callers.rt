@@ -6,6 +6,7 @@ mod by_run_clauses;
 mod by_session;
 
 use super::session::{site_of, words_of};
+use super::summary::{CONFIG, CUT, NEW, OLD, REPORT};
 use aide_conf::{Need, Settings};
 use aide_db::{Desk, MemorySources};
 use aide_report::MemorySink;
@@ -20,24 +21,6 @@ use by_session::run_session;
 use std::alloc::Global;
 use std::test::Fail;
 
-/// A configuration that names the databases `/old` and `/new`.
-const CONFIG: &[u8] = b"database_in=file:/old\ndatabase_new=file:/new\nreport_level=summary\n";
-
-/// Between these two, `/a` and `/d` were added, `/b` was removed, and `/c` has changed.
-const OLD: &[u8] = b"@@begin_db\n@@db_spec name size\n/b 5\n/c 10\n@@end_db\n";
-
-const NEW: &[u8] = b"@@begin_db\n@@db_spec name size\n/a 5\n/c 7\n/d 1\n@@end_db\n";
-
-/// What a comparison of these two writes.
-const REPORT: &[u8] = b"AIDE found differences between the two databases.
-
-Summary:
-  Total number of entries: 3
-  Added entries:           2
-  Removed entries:         1
-  Changed entries:         1
-";
-
 #[test]
 fn counts_by_run(rt: HostRuntime) -> Result<(), Fail> {
     let Ok(outcome) = counts_of(rt.alloc(), CONFIG, OLD, NEW) else {
@@ -51,8 +34,7 @@ fn counts_by_run(rt: HostRuntime) -> Result<(), Fail> {
 /// The new database has no end.
 #[test]
 fn names_the_fault_of_a_run(rt: HostRuntime) -> Result<(), Fail> {
-    let cut = b"@@begin_db\n@@db_spec name size\n/a 5\n";
-    let Err(Refusal::Run(fault)) = counts_of(rt.alloc(), CONFIG, OLD, cut) else {
+    let Err(Refusal::Run(fault)) = counts_of(rt.alloc(), CONFIG, OLD, CUT) else {
         assert!(rt; false, "no fault of a run");
         return Ok(());
     };

@@ -1,14 +1,11 @@
 //! What the desk that a session is given has held.
+use super::lines::{MODE_600, MODE_644};
 use super::session::{CONF, site_of, words_of};
 use aide_db::Desk;
 use aide_report::MemorySink;
 use aide_session::{Site, Words, session_on};
 use std::alloc::Global;
 use std::test::Fail;
-
-const OLD: &[u8] = b"@@begin_db\n@@db_spec name perm\n/file 100644\n@@end_db\n";
-
-const NEW: &[u8] = b"@@begin_db\n@@db_spec name perm\n/file 100600\n@@end_db\n";
 
 /// The status of a session on this desk. It has no contract, so that the many facts about `session_on` are no part of
 /// the proofs of its callers.
@@ -21,7 +18,7 @@ fn status_on<S: Site>(alloc: Global, words: &Words, desk: &mut Desk<Global>, sit
 /// The clauses of `session_on` bound what its desk holds, and would say nothing of lines on another desk.
 #[test]
 fn holds_its_lines_on_the_desk_of_the_caller(rt: HostRuntime) -> Result<(), Fail> {
-    let mut site = site_of(rt.alloc(), CONF, OLD, NEW)?;
+    let mut site = site_of(rt.alloc(), CONF, MODE_644, MODE_600)?;
     let words = words_of(rt.alloc(), "aide -E -c /conf")?;
     let mut desk = Desk::new(rt.alloc());
     let status = status_on(rt.alloc(), &words, &mut desk, &mut site);

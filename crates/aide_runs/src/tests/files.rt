@@ -28,15 +28,13 @@ fn compare_files(rt: &HostRuntime) -> Result<Ended, Memory> {
     Ok(run_session(rt.alloc(), &words, &mut site))
 }
 
-const HEAD: &str = "AIDE found differences between the two databases.\n";
+const HEAD: &[u8] = b"AIDE found differences between the two databases.\n";
 
 #[test]
 fn compares_files_of_the_machine(rt: HostRuntime) -> Result<(), Fail> {
     write_files(&rt)?;
     let ended = compare_files(&rt)?;
     fs::remove_dir_all(&rt, FOLDER)?;
-    assert!(rt; ended.status == 7, "status {}", ended.status);
-    assert!(rt; ended.output.bytes() == HEAD.as_bytes(), "output");
-    assert!(rt; ended.errors.bytes().is_empty(), "error lines");
+    ended.assert_is(&rt, 7, HEAD, b"");
     Ok(())
 }

@@ -1,6 +1,7 @@
 //! The calls whose contracts are the headline.
 use super::lines::{LINES, MODE_600, MODE_644, program_ended};
 use super::session::{CONF, site_of, words_of};
+use super::summary::{CONFIG, CUT, NEW, OLD, REPORT};
 use aide_conf::{Need, Settings};
 use aide_db::{Desk, Limits, MemorySources};
 use aide_headline::{compare_databases, run_program};
@@ -14,23 +15,6 @@ const LIMITS: Limits = Limits {
     bytes: 1_048_576,
 };
 
-const OLD: &[u8] = b"@@begin_db\n@@db_spec name size\n/b 5\n/c 10\n@@end_db\n";
-
-/// In this one `/a` and `/d` were added, `/b` was removed, and `/c` has changed.
-const NEW: &[u8] = b"@@begin_db\n@@db_spec name size\n/a 5\n/c 7\n/d 1\n@@end_db\n";
-
-/// It has no end.
-const CUT: &[u8] = b"@@begin_db\n@@db_spec name size\n/a 5\n";
-
-const SUMMARY: &[u8] = b"AIDE found differences between the two databases.
-
-Summary:
-  Total number of entries: 3
-  Added entries:           2
-  Removed entries:         1
-  Changed entries:         1
-";
-
 /// Compares two databases at the level of the summary. It has no contract, so that the facts about the call are no part
 /// of the proofs of its callers.
 fn compared<W: Sink>(
@@ -39,8 +23,7 @@ fn compared<W: Sink>(
     new: &[u8],
     out: &mut W,
 ) -> Option<Result<Outcome, RunFault>> {
-    let conf = b"database_in=file:/old\ndatabase_new=file:/new\nreport_level=summary\n";
-    let settings = Settings::read(alloc, b"", conf, b"", Need::Compare).ok()?;
+    let settings = Settings::read(alloc, b"", CONFIG, b"", Need::Compare).ok()?;
     let task = settings.task()?;
     let mut desk = Desk::reserved(alloc, LIMITS.line).ok()?;
     let mut sources = MemorySources::new(old, new);
@@ -61,7 +44,7 @@ fn reports_two_databases(rt: HostRuntime) {
         Some(Ok(outcome)) => assert!(rt; outcome.status() == 7, "status {}", outcome.status()),
         _ => assert!(rt; false, "no report"),
     }
-    assert!(rt; out.bytes() == SUMMARY, "report");
+    assert!(rt; out.bytes() == REPORT, "report");
 }
 
 #[test]
@@ -81,7 +64,7 @@ fn runs_the_whole_program(rt: HostRuntime) -> Result<(), Fail> {
     let mut out = MemorySink::new(rt.alloc());
     let status = status_of(rt.alloc(), &words, &mut site, &mut out);
     assert!(rt; status == 7, "status {status}");
-    assert!(rt; out.bytes() == SUMMARY, "report");
+    assert!(rt; out.bytes() == REPORT, "report");
     Ok(())
 }
 

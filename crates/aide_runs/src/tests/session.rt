@@ -2,6 +2,7 @@
 use aide_report::{MemorySink, Sink};
 use aide_session::{Memory, MemorySite, Site, Words, session};
 use std::alloc::Global;
+use std::process::Abort;
 
 pub(super) const CONF: &[u8] = b"database_in=file:/old\ndatabase_new=file:/new\n";
 
@@ -60,6 +61,15 @@ pub(super) struct Ended {
     pub(super) status: u8,
     pub(super) output: MemorySink<Global>,
     pub(super) errors: MemorySink<Global>,
+}
+
+impl Ended {
+    /// Checks the status, standard output and standard error.
+    pub(super) fn assert_is(&self, rt: &impl Abort, status: u8, output: &[u8], errors: &[u8]) {
+        assert!(rt; self.status == status, "status {}", self.status);
+        assert!(rt; self.output.bytes() == output, "output");
+        assert!(rt; self.errors.bytes() == errors, "error lines");
+    }
 }
 
 /// Runs a session.

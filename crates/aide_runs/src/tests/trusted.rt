@@ -1,8 +1,9 @@
 //! Sessions with a trusted pair. Their output is that of the plain program in `tests/oracle`.
 use super::lines::{are_cut, ended_on, program_ended};
-use super::session::{CONF, site_of, words_of};
+use super::session::{CONF, Ended, site_of, words_of};
 use aide_session::{Memory, MemorySite, SiteWithDesk};
 use std::alloc::Global;
+use std::process::Abort;
 use std::test::Fail;
 
 const OLD: &[u8] = b"@@begin_db\n@@db_spec name perm\n/kept 40755\n/opened 40700\n@@end_db\n";
@@ -89,58 +90,74 @@ fn writes_the_lines_with_a_trusted_pair(rt: HostRuntime) -> Result<(), Fail> {
     let mut compared = SiteWithDesk::new(rt.alloc(), site);
     let mut trusted = SiteWithDesk::new(rt.alloc(), trusted_pair);
     let ended = ended_on(rt.alloc(), &words, &mut compared, &mut trusted);
-    assert!(rt; ended.status == 4, "status {}", ended.status);
-    assert!(rt; ended.output.bytes() == LINES, "output");
-    assert!(rt; ended.errors.bytes().is_empty(), "error lines");
+    ended.assert_is(&rt, 4, LINES, b"");
     // The two entries of a path are on the desk of their pair at once.
     assert!(rt; compared.desk.peak() >= 13 + 13 && trusted.desk.peak() >= 11 + 11);
     Ok(())
 }
 
+/// What the whole program writes and returns with these two databases of a trusted machine.
+fn ended_with(alloc: Global, line: &str, old: &[u8], new: &[u8]) -> Result<Ended, Memory> {
+    let site = site_of(alloc, CONF, OLD, NEW)?;
+    let trusted = trusted_site(alloc, old, new)?;
+    let words = words_of(alloc, line)?;
+    Ok(program_ended(alloc, &words, site, trusted))
+}
+
+/// A run of the whole program: the trusted machine's old database, and the end of the run.
+struct Run {
+    line: &'static str,
+    old: &'static [u8],
+    output: &'static [u8],
+    errors: &'static [u8],
+    status: u8,
+}
+
+const RUNS: [Run; 3] = [
+    Run {
+        line: LINE,
+        old: TRUSTED_OLD,
+        output: LINES,
+        errors: b"",
+        status: 4,
+    },
+    Run {
+        line: LISTED_LINE,
+        old: TRUSTED_NEW,
+        output: LISTED_LINES,
+        errors: b"",
+        status: 4,
+    },
+    // The fault of a list comes before all others.
+    Run {
+        line: BAD_LIST_LINE,
+        old: TRUSTED_OLD,
+        output: b"",
+        errors: BAD_LIST,
+        status: 17,
+    },
+];
+
+/// Runs the whole program of a row, and checks its end.
+fn assert_run(rt: &impl Abort, alloc: Global, row: &Run) -> Result<(), Memory> {
+    let ended = ended_with(alloc, row.line, row.old, TRUSTED_NEW)?;
+    ended.assert_is(rt, row.status, row.output, row.errors);
+    Ok(())
+}
+
 #[test]
 fn runs_the_whole_program_with_a_trusted_pair(rt: HostRuntime) -> Result<(), Fail> {
-    let site = site_of(rt.alloc(), CONF, OLD, NEW)?;
-    let trusted = trusted_site(rt.alloc(), TRUSTED_OLD, TRUSTED_NEW)?;
-    let words = words_of(rt.alloc(), LINE)?;
-    let ended = program_ended(rt.alloc(), &words, site, trusted);
-    assert!(rt; ended.status == 4, "status {}", ended.status);
-    assert!(rt; ended.output.bytes() == LINES, "output");
-    assert!(rt; ended.errors.bytes().is_empty(), "error lines");
+    for row in &RUNS {
+        assert_run(&rt, rt.alloc(), row)?;
+    }
     Ok(())
 }
 
 #[test]
 fn names_the_fault_of_a_trusted_database(rt: HostRuntime) -> Result<(), Fail> {
-    let site = site_of(rt.alloc(), CONF, OLD, NEW)?;
-    let trusted = trusted_site(rt.alloc(), TRUSTED_OLD, CUT)?;
-    let words = words_of(rt.alloc(), LINE)?;
-    let ended = program_ended(rt.alloc(), &words, site, trusted);
+    let ended = ended_with(rt.alloc(), LINE, TRUSTED_OLD, CUT)?;
     assert!(rt; ended.status == 24, "status {}", ended.status);
     assert!(rt; are_cut(ended.output.bytes()), "output");
     assert!(rt; ended.errors.bytes() == CUT_LINE, "error lines");
-    Ok(())
-}
-
-#[test]
-fn leaves_out_what_a_list_names(rt: HostRuntime) -> Result<(), Fail> {
-    let site = site_of(rt.alloc(), CONF, OLD, NEW)?;
-    let trusted = trusted_site(rt.alloc(), TRUSTED_NEW, TRUSTED_NEW)?;
-    let words = words_of(rt.alloc(), LISTED_LINE)?;
-    let ended = program_ended(rt.alloc(), &words, site, trusted);
-    assert!(rt; ended.status == 4, "status {}", ended.status);
-    assert!(rt; ended.output.bytes() == LISTED_LINES, "output");
-    assert!(rt; ended.errors.bytes().is_empty(), "error lines");
-    Ok(())
-}
-
-#[test]
-fn names_the_fault_of_a_list_before_all_others(rt: HostRuntime) -> Result<(), Fail> {
-    let site = MemorySite::new(rt.alloc());
-    let trusted = MemorySite::new(rt.alloc());
-    let words = words_of(rt.alloc(), BAD_LIST_LINE)?;
-    let ended = program_ended(rt.alloc(), &words, site, trusted);
-    assert!(rt; ended.status == 17, "status {}", ended.status);
-    assert!(rt; ended.output.bytes().is_empty(), "output");
-    assert!(rt; ended.errors.bytes() == BAD_LIST, "error lines");
     Ok(())
 }
