@@ -51,44 +51,13 @@ ll= .   .         : /a b/link
 f.< p   m   H-    : /a b/text
 ";
 
-const CHANGED: &[u8] = b"
+const DETAILS: &[u8] = b"
 ---------------------------------------------------
 Detailed information about changes:
 ---------------------------------------------------
-
-Link: /a b/link
-  Lname     : old target                       |\x20
-
-File: /a b/text
-  Size      : 10                               | 7
-  Perm      : 0644                             | 0600
-  Mtime     : 10                               | -5
-  MD5       : 1B2M2Y8AsgTpgAmY7PhCfg==         | q6urq6urq6urq6urq6urqw==
 ";
 
-const ATTRIBUTES: &[u8] = b"
----------------------------------------------------
-Detailed information about changes:
----------------------------------------------------
-
-Link: /a b/link
-  Lname     : old target                       |\x20
-
-File: /a b/text
-  Size      : 10                               | 7
-  Perm      : 0644                             | 0600
-  Mtime     : 10                               | -5
-  MD5       : 1B2M2Y8AsgTpgAmY7PhCfg==         | q6urq6urq6urq6urq6urqw==
-  SHA256    :                                  | 47DEQpj8HBSa+/TImW+5JCeuQeRkm5NM
-                                               | pJWZG3hSuFU=
-  ACL       : user::rw-                        |\x20
-";
-
-const ENTRIES: &[u8] = b"
----------------------------------------------------
-Detailed information about changes:
----------------------------------------------------
-
+const REMOVED: &[u8] = b"
 File: /a b/gone
   Type      : File                             |\x20
   Lname     :                                  |\x20
@@ -97,7 +66,9 @@ File: /a b/gone
   Mtime     : -5                               |\x20
   MD5       : 1B2M2Y8AsgTpgAmY7PhCfg==         |\x20
   ACL       : user::rw-                        |\x20
+";
 
+const CHANGED: &[u8] = b"
 Link: /a b/link
   Lname     : old target                       |\x20
 
@@ -106,10 +77,15 @@ File: /a b/text
   Perm      : 0644                             | 0600
   Mtime     : 10                               | -5
   MD5       : 1B2M2Y8AsgTpgAmY7PhCfg==         | q6urq6urq6urq6urq6urqw==
-  SHA256    :                                  | 47DEQpj8HBSa+/TImW+5JCeuQeRkm5NM
+";
+
+const ATTRIBUTES: &[u8] =
+    b"  SHA256    :                                  | 47DEQpj8HBSa+/TImW+5JCeuQeRkm5NM
                                                | pJWZG3hSuFU=
   ACL       : user::rw-                        |\x20
+";
 
+const ADDED: &[u8] = b"
 Block device: /a-new\\012%
   Type      :                                  | Block device
   Lname     :                                  |\x20
@@ -132,90 +108,102 @@ New database: /new
               USEm3ta8sYo=
 ";
 
-/// A level: the line that sets it in a configuration, how often each side is opened, and the report after its head.
+/// A part of the report, and the first level whose report contains it.
+struct Part {
+    from: u8,
+    text: &'static [u8],
+}
+
+/// The parts of the report after its head, in their order.
+const PARTS: [Part; 8] = [
+    Part {
+        from: 1,
+        text: SUMMARY,
+    },
+    Part {
+        from: 3,
+        text: LISTS,
+    },
+    Part {
+        from: 4,
+        text: DETAILS,
+    },
+    Part {
+        from: 6,
+        text: REMOVED,
+    },
+    Part {
+        from: 4,
+        text: CHANGED,
+    },
+    Part {
+        from: 5,
+        text: ATTRIBUTES,
+    },
+    Part {
+        from: 6,
+        text: ADDED,
+    },
+    Part {
+        from: 2,
+        text: DATABASES,
+    },
+];
+
+/// A level: its index, the line that sets it in a configuration, and how often each side is opened.
 pub(super) struct LevelRow {
+    level: u8,
     pub(super) options: &'static [u8],
     pub(super) openings: u64,
-    summary: &'static [u8],
-    lists: &'static [u8],
-    details: &'static [u8],
-    databases: &'static [u8],
 }
 
 pub(super) const LEVELS: [LevelRow; 7] = [
     LevelRow {
+        level: 0,
         options: b"report_level=minimal",
         openings: 2,
-        summary: b"",
-        lists: b"",
-        details: b"",
-        databases: b"",
     },
     LevelRow {
+        level: 1,
         options: b"report_level=summary",
         openings: 2,
-        summary: SUMMARY,
-        lists: b"",
-        details: b"",
-        databases: b"",
     },
     LevelRow {
+        level: 2,
         options: b"report_level=database_attributes",
         openings: 2,
-        summary: SUMMARY,
-        lists: b"",
-        details: b"",
-        databases: DATABASES,
     },
     LevelRow {
+        level: 3,
         options: b"report_level=list_entries",
         openings: 5,
-        summary: SUMMARY,
-        lists: LISTS,
-        details: b"",
-        databases: DATABASES,
     },
     LevelRow {
+        level: 4,
         options: b"report_level=changed_attributes",
         openings: 6,
-        summary: SUMMARY,
-        lists: LISTS,
-        details: CHANGED,
-        databases: DATABASES,
     },
     LevelRow {
+        level: 5,
         options: b"report_level=added_removed_attributes",
         openings: 6,
-        summary: SUMMARY,
-        lists: LISTS,
-        details: ATTRIBUTES,
-        databases: DATABASES,
     },
     LevelRow {
+        level: 6,
         options: b"report_level=added_removed_entries",
         openings: 6,
-        summary: SUMMARY,
-        lists: LISTS,
-        details: ENTRIES,
-        databases: DATABASES,
     },
 ];
 
 impl LevelRow {
     /// The whole report.
     pub(super) fn report<A: Allocator + Copy>(&self, alloc: A) -> Result<Vec<u8, A>, AllocError> {
-        joined(
-            alloc,
-            &[HEAD, self.summary, self.lists, self.details, self.databases],
-        )
+        let mut text = Vec::from_slice(alloc, HEAD)?;
+        for part in &PARTS {
+            if part.from <= self.level {
+                text.extend_from_slice(part.text)?;
+            }
+        }
+        Ok(text)
     }
-}
-
-/// These pieces, one after another.
-fn joined<A: Allocator + Copy>(alloc: A, pieces: &[&[u8]]) -> Result<Vec<u8, A>, AllocError> {
-    let mut text = Vec::new(alloc);
-    for piece in pieces {
-        text.extend_from_slice(piece)?;
-    }
-    Ok(text)
 }
