@@ -20,7 +20,7 @@ use Rattle.aide_patterns.proofs.DotLemmas.{list_meaning, names_complete, pattern
 use Rattle.aide_patterns.proofs.FindLemmas.{line_behind, line_here}
 use Rattle.aide_patterns.proofs.FrontLemmas.{one_part}
 use Rattle.aide_patterns.proofs.LiteralLemmas.{first_no_star, within_is, within_itself}
-use Rattle.aide_patterns.proofs.ReadLemmas.{has_first_fault, has_rules}
+use Rattle.aide_patterns.proofs.ReadLemmas.{list_is_read}
 use Rattle.aide_patterns.proofs.ReadingLemmas.{pieces_go_on, reads_fault, reads_rules, rules_go_on}
 
 -- ---- patterns
@@ -128,7 +128,7 @@ line_stays_in_text text lines rules longer path is_program line short long found
 
 -- each text has a reading
 pub has_reading : (text : List ℕ) → IsReading text (read_list text)
-has_reading text = search (rules, has_rules, has_first_fault)
+has_reading text = list_is_read text
 
 -- and no other one
 pub one_reading : (text : List ℕ) (reading : Result (List RuleText) ListFault) → IsReading text reading

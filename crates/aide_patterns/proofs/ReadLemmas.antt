@@ -7,7 +7,7 @@ use Rattle.std.specs.List.{All}
 use Rattle.std.proofs.lemmas.List.{append-nil}
 use Rattle.std.proofs.lemmas.List.Elements.{All-nil, All-cons}
 use Rattle.aide_patterns.specs.Line.{LineResult, RuleText, rule_of}
-use Rattle.aide_patterns.specs.List.{Line, numbered, most_rules, rule_at, rule_read, rules_of, fault_read, IsSound, HasRules, HasFirstFault}
+use Rattle.aide_patterns.specs.List.{Line, numbered, most_rules, rule_at, rule_read, rules_of, fault_read, IsReading, IsSound}
 use Rattle.aide_patterns.specs.Pieces.{pieces}
 use Rattle.aide_patterns.specs.code.Reading.{added, and_then, read_from, read_list}
 use Rattle.aide_patterns.specs.declared.fault.ListFault.{ListFault}
@@ -43,28 +43,6 @@ record RulesFrom (number : ℕ) (rules : List RuleText) (texts : List (List ℕ)
   rules_are : all ≡ rules ++ rules_of (numbered number texts)
   few : length all ≤ most_rules
 
-rules_from : (number : ℕ) (rules : List RuleText) (texts : List (List ℕ)) (all : List RuleText)
-    → length rules ≤ most_rules → read_from number rules texts ≡ Ok all → RulesFrom number rules texts all
-rules_from number rules [] all fits e = grind (arith, common_steps, All-nil, append-nil)
-rules_from number rules (text ∷ texts) all fits e =
-    go (λ others k f. rules_from (number + 1) others texts all k f) (added rules (rule_of number text)) refl e
-  where
-    go : ((others : List RuleText) → length others ≤ most_rules → read_from (number + 1) others texts ≡ Ok all
-        → RulesFrom (number + 1) others texts all)
-        → (r : Result (List RuleText) ListFaultKind) → added rules (rule_of number text) ≡ r
-        → and_then number r (λ others. read_from (number + 1) others texts) ≡ Ok all
-        → RulesFrom number rules (text ∷ texts) all
-    go again (Ok others) here f =
-        let one = is_added rules (rule_of number text) others fits here in
-        let rest = again others one.few f in
-        record {
-          sound = All-cons IsSound (number, text) (numbered (number + 1) texts) one.sound rest.sound;
-          rules_are = rest.rules_are ∙ (ap (λ rs. rs ++ rules_of (numbered (number + 1) texts)) one.rules_are
-              ∙ append_assoc rules (rule_at (number, text)) (rules_of (numbered (number + 1) texts)));
-          few = rest.few;
-        }
-    go again (Err kind) here f = cc
-
 -- the lines from a number on have this first fault, behind the rules of others
 record FaultFrom (number : ℕ) (rules : List RuleText) (texts : List (List ℕ)) (fault : ListFault) : Type 0 where
   before : List Line
@@ -75,59 +53,71 @@ record FaultFrom (number : ℕ) (rules : List RuleText) (texts : List (List ℕ)
   few : length (rules ++ rules_of before) ≤ most_rules
   kind : FaultBehind (rules ++ rules_of before) (rule_of fault.line line) fault.kind
 
-fault_from : (number : ℕ) (rules : List RuleText) (texts : List (List ℕ)) (fault : ListFault)
-    → length rules ≤ most_rules → read_from number rules texts ≡ Err fault → FaultFrom number rules texts fault
-fault_from number rules [] fault fits e = cc
-fault_from number rules (text ∷ texts) fault fits e =
-    go (λ others k f. fault_from (number + 1) others texts fault k f) (added rules (rule_of number text)) refl e
-  where
-    go : ((others : List RuleText) → length others ≤ most_rules → read_from (number + 1) others texts ≡ Err fault
-        → FaultFrom (number + 1) others texts fault)
-        → (r : Result (List RuleText) ListFaultKind) → added rules (rule_of number text) ≡ r
-        → and_then number r (λ others. read_from (number + 1) others texts) ≡ Err fault
-        → FaultFrom number rules (text ∷ texts) fault
-    go again (Ok others) here f =
-        let one = is_added rules (rule_of number text) others fits here in
-        let rest = again others one.few f in
-        let behind : others ++ rules_of rest.before ≡ rules ++ rules_of ((number, text) ∷ rest.before) =
-        ap (λ rs. rs ++ rules_of rest.before) one.rules_are
-        ∙ append_assoc rules (rule_at (number, text)) (rules_of rest.before) in
-        record {
-          before = (number, text) ∷ rest.before;
-          line = rest.line;
-          after = rest.after;
-          parts = ap (λ ls. (number, text) ∷ ls) rest.parts;
-          sound = All-cons IsSound (number, text) rest.before one.sound rest.sound;
-          few = omega (arith, rest.few, ap length behind);
-          kind = subst (λ rs. FaultBehind rs (rule_of fault.line rest.line) fault.kind) behind rest.kind;
-        }
-    go again (Err kind) here f =
-        let is : record { line = number; kind = kind } ≡ fault = cc in
-        subst (FaultFrom number rules (text ∷ texts)) is (record {
-          before = [];
-          line = text;
-          after = numbered (number + 1) texts;
-          parts = refl;
-          sound = All-nil IsSound;
-          few = omega (arith, fits, ap length (append-nil rules));
-          kind = subst (λ rs. FaultBehind rs (rule_of number text) kind) (sym (append-nil rules))
-              (is_refused rules (rule_of number text) kind here);
-        })
+-- what the lines from a number on have, behind the rules of others
+abbrev ReadFrom : ℕ → List RuleText → List (List ℕ) → Result (List RuleText) ListFault → Type 0
+ReadFrom number rules texts (Ok all) = RulesFrom number rules texts all
+ReadFrom number rules texts (Err fault) = FaultFrom number rules texts fault
 
-pub has_rules : (text : List ℕ) (rules : List RuleText) → read_list text ≡ Ok rules → HasRules text rules
-has_rules text rules e =
-    let h = rules_from 1 [] (pieces 10 text) rules (omega arith) e in
-    record { sound = h.sound; all = h.rules_are; few = h.few }
-
-pub has_first_fault : (text : List ℕ) (fault : ListFault) → read_list text ≡ Err fault → HasFirstFault text fault
-has_first_fault text fault e =
-    let h = fault_from 1 [] (pieces 10 text) fault (omega arith) e in
+-- a line was read, and the others behind it
+one_more : (number : ℕ) (rules : List RuleText) (text : List ℕ) (texts : List (List ℕ)) (others : List RuleText)
+    → IsAdded rules (rule_of number text) others → (r : Result (List RuleText) ListFault)
+    → ReadFrom (number + 1) others texts r → ReadFrom number rules (text ∷ texts) r
+one_more number rules text texts others one (Ok all) rest = record {
+  sound = All-cons IsSound (number, text) (numbered (number + 1) texts) one.sound rest.sound;
+  rules_are = rest.rules_are ∙ (ap (λ rs. rs ++ rules_of (numbered (number + 1) texts)) one.rules_are
+      ∙ append_assoc rules (rule_at (number, text)) (rules_of (numbered (number + 1) texts)));
+  few = rest.few;
+}
+one_more number rules text texts others one (Err fault) rest =
+    let behind : others ++ rules_of rest.before ≡ rules ++ rules_of ((number, text) ∷ rest.before) =
+    ap (λ rs. rs ++ rules_of rest.before) one.rules_are
+    ∙ append_assoc rules (rule_at (number, text)) (rules_of rest.before) in
     record {
-      before = h.before;
-      line = h.line;
-      after = h.after;
-      parts = h.parts;
-      sound = h.sound;
-      few = h.few;
-      why = h.kind;
+      before = (number, text) ∷ rest.before;
+      line = rest.line;
+      after = rest.after;
+      parts = ap (λ ls. (number, text) ∷ ls) rest.parts;
+      sound = All-cons IsSound (number, text) rest.before one.sound rest.sound;
+      few = omega (arith, rest.few, ap length behind);
+      kind = subst (λ rs. FaultBehind rs (rule_of fault.line rest.line) fault.kind) behind rest.kind;
     }
+
+reads_from : (number : ℕ) (rules : List RuleText) (texts : List (List ℕ)) → length rules ≤ most_rules
+    → ReadFrom number rules texts (read_from number rules texts)
+reads_from number rules [] fits = record { sound = All-nil IsSound; rules_are = sym (append-nil rules); few = fits }
+reads_from number rules (text ∷ texts) fits =
+    go (λ others few. reads_from (number + 1) others texts few) (added rules (rule_of number text)) refl
+  where
+    go : ((others : List RuleText) → length others ≤ most_rules
+        → ReadFrom (number + 1) others texts (read_from (number + 1) others texts))
+        → (r : Result (List RuleText) ListFaultKind) → added rules (rule_of number text) ≡ r
+        → ReadFrom number rules (text ∷ texts) (and_then number r (λ others. read_from (number + 1) others texts))
+    go again (Ok others) here =
+        let one = is_added rules (rule_of number text) others fits here in
+        one_more number rules text texts others one (read_from (number + 1) others texts) (again others one.few)
+    go again (Err kind) here = record {
+      before = [];
+      line = text;
+      after = numbered (number + 1) texts;
+      parts = refl;
+      sound = All-nil IsSound;
+      few = omega (arith, fits, ap length (append-nil rules));
+      kind = subst (λ rs. FaultBehind rs (rule_of number text) kind) (sym (append-nil rules))
+          (is_refused rules (rule_of number text) kind here);
+    }
+
+is_reading : (text : List ℕ) (r : Result (List RuleText) ListFault) → ReadFrom 1 [] (pieces 10 text) r → IsReading text r
+is_reading text (Ok rules) h = record { sound = h.sound; all = h.rules_are; few = h.few }
+is_reading text (Err fault) h = record {
+  before = h.before;
+  line = h.line;
+  after = h.after;
+  parts = h.parts;
+  sound = h.sound;
+  few = h.few;
+  why = h.kind;
+}
+
+-- a list, read line by line, is its reading
+pub list_is_read : (text : List ℕ) → IsReading text (read_list text)
+list_is_read text = is_reading text (read_list text) (reads_from 1 [] (pieces 10 text) (omega arith))

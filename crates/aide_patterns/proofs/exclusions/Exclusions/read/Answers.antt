@@ -1,8 +1,11 @@
-use Rattle.aide_patterns.proofs.ReadLemmas.{has_first_fault, has_rules}
+use Rattle.std.proofs.Common.{subst}
+use Rattle.aide_patterns.specs.List.{IsReading}
+use Rattle.aide_patterns.proofs.ReadLemmas.{list_is_read}
 use Rattle.aide_patterns.proofs.exclusions.Exclusions.read.Goals as goal
 
 pub returns-in-Ok-clause-ok : goal.returns-in-Ok-clause-ok
-returns-in-Ok-clause-ok c = has_rules c.args.text.now _ c.in-Ok.ensures.ok
+returns-in-Ok-clause-ok c = subst (IsReading c.args.text.now) c.in-Ok.ensures.ok (list_is_read c.args.text.now)
 
 pub returns-in-Err-clause-err : goal.returns-in-Err-clause-err
-returns-in-Err-clause-err c other = has_first_fault c.args.text.now c.in-Err.fault (c.in-Err.ensures.err other)
+returns-in-Err-clause-err c other =
+    subst (IsReading c.args.text.now) (c.in-Err.ensures.err other) (list_is_read c.args.text.now)
