@@ -8,7 +8,7 @@ use Rattle.aide_conf.specs.Cutting.{Place}
 use Rattle.aide_conf.specs.Marks.{Marked}
 use Rattle.aide_conf.specs.PlaceFault.{fault_at}
 use Rattle.aide_conf.specs.RightMarks.{IsMarkedWell}
-use Rattle.aide_conf.specs.ReadResult.{IsRefused}
+use Rattle.aide_conf.specs.ReadResult.{IsFirstFaulty, IsRefused}
 use Rattle.aide_conf.specs.FaultOrder.{fault_order, has_fault, HasNoneOf, IsFirstOfPlace, HasFaultyPlace}
 use Rattle.aide_conf.proofs.FaultOrderLemmas.{first_of_place}
 use Rattle.aide_attr.proofs.FindLemmas.{found_first, first_found, none_passes, passes_none}
@@ -28,28 +28,23 @@ pub no_fault_holds : (need : Need) (before : List Marked) (x : Marked) → IsMar
     → (fault_at need before x ≡ None) ↔ HasNoneOf need before x fault_order
 no_fault_holds need before x marked = search (rules, none_passes, first_of_place, passes_none)
 
+with_fault : {need : Need} {Is Other : List Marked → Marked → ConfFaultKind → Type 0} {ps : List Place} {e : ConfFault}
+    → ((before : List Marked) (x : Marked) (kind : ConfFaultKind) → IsMarkedWell before x → Is before x kind → Other before x kind)
+    → IsFirstFaulty need Is ps e → IsFirstFaulty need Other ps e
+with_fault {e} turn f = record {
+  lines = f.lines;
+  at = f.at;
+  rest = f.rest;
+  cut = f.cut;
+  sound = f.sound;
+  marked = f.marked;
+  fault = turn f.lines f.at e.kind f.marked f.fault;
+  text = f.text;
+  line = f.line;
+}
+
 pub faulty_places : (need : Need) (ps : List Place) (e : ConfFault) → IsRefused need ps e ↔ HasFaultyPlace need ps e
 faulty_places need ps e = (
-  λ r. record {
-    lines = r.lines;
-    at = r.at;
-    rest = r.rest;
-    cut = r.cut;
-    sound = r.sound;
-    marked = r.marked;
-    fault = (fault_is_first need r.lines r.at e.kind r.marked).0 r.fault;
-    text = r.text;
-    line = r.line;
-  },
-  λ h. record {
-    lines = h.lines;
-    at = h.at;
-    rest = h.rest;
-    cut = h.cut;
-    sound = h.sound;
-    marked = h.marked;
-    fault = (fault_is_first need h.lines h.at e.kind h.marked).1 h.fault;
-    text = h.text;
-    line = h.line;
-  },
+  λ r. with_fault (λ before x kind marked. (fault_is_first need before x kind marked).0) r,
+  λ h. with_fault (λ before x kind marked. (fault_is_first need before x kind marked).1) h,
 )

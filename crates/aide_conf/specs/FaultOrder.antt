@@ -1,7 +1,7 @@
 -- What can be wrong with a place of a configuration, one fault at a time, and which fault of a place is reported.
 use Rattle.std.specs.Prelude.{ℕ, ◌≡◌, ◌==◌, nat_lt, nat_le, Bool, true, false, not, ◌&&◌, ◌||◌}
 use Rattle.std.specs.Prelude.{List, [], ◌∷◌, ◌++◌, length, codes, Option, Some, None, is_none}
-use Rattle.std.specs.Prelude.{unwrap_or, if◌then◌else◌, Result, Err, All, map}
+use Rattle.std.specs.Prelude.{unwrap_or, if◌then◌else◌, Result, Err, All}
 use Rattle.aide_attr.specs.declared.set.AttrSet.{AttrSet}
 use Rattle.aide_attr.specs.declared.expression.ExprFault.{ExprFault}
 use Rattle.aide_attr.specs.declared.expression.ExprFault.TheVariants as expression
@@ -49,7 +49,7 @@ use Rattle.aide_conf.specs.Marks.{Marked}
 use Rattle.aide_conf.specs.MarkedGroups.{is_too_many}
 use Rattle.aide_conf.specs.MarkedVariables.{is_one_variable_more}
 use Rattle.aide_conf.specs.MarkedPaths.{path_set}
-use Rattle.aide_conf.specs.RightMarks.{IsMarkedWell, AreSound}
+use Rattle.aide_conf.specs.ReadResult.{IsFirstFaulty}
 
 -- ---- the order
 
@@ -287,13 +287,5 @@ pub record IsFirstOfPlace (need : Need) (before : List Marked) (x : Marked) (kin
 
 -- No place before the place of this fault has a fault. That place has this fault, and none that is before it in the
 -- order.
-pub record HasFaultyPlace (need : Need) (ps : List Place) (e : ConfFault) : Type 0 where
-  pub lines : List Marked
-  pub at : Marked
-  pub rest : List Place
-  pub cut : ps ≡ map (λ x. x.place) lines ++ at.place ∷ rest
-  pub sound : AreSound need [] lines
-  pub marked : IsMarkedWell lines at
-  pub fault : IsFirstOfPlace need lines at e.kind
-  pub text : e.text ≡ at.place.text
-  pub line : e.line ≡ at.place.number
+abbrev pub HasFaultyPlace : Need → List Place → ConfFault → Type 0
+HasFaultyPlace need ps e = IsFirstFaulty need (IsFirstOfPlace need) ps e
