@@ -119,7 +119,7 @@ fn assert_read<A: Allocator + Copy>(
     requires bytes { limits.bytes ≤ 2 ^ 60 }
 {
     for pace in &PACES {
-        let reel = PlannedReel::new(text, *pace, u64::MAX);
+        let reel = PlannedReel::new(text, *pace, u64::MAX, false);
         let (entries, answer, _) = read_whole(rt, reel, limits, desk);
         let right = wanted.is_given(entries, answer);
         assert!(rt; right, "{text:?}, {pace:?}: {entries} and {answer:?}");

@@ -1,5 +1,5 @@
 //! Reels that give few bytes at a time, fail after a chosen number of bytes once or for good, or never end.
-ghost use Rattle.std.specs.Prelude.{◌≡◌, Some, None, false, true};
+ghost use Rattle.std.specs.Prelude.{◌≡◌, Some, None};
 
 use crate::pace::Pace;
 use aide_db::{DeviceFault, Reel};
@@ -15,38 +15,20 @@ pub struct PlannedReel<'a> {
 }
 
 impl<'a> PlannedReel<'a> {
-    /// A reel over these bytes, which gives them at this pace and fails after `sound` of them.
-    /// If there are fewer bytes than `sound`, the reel never fails.
-    pub fn new(bytes: &'a [u8], pace: Pace, sound: u64) -> PlannedReel<'a>
+    /// A reel over these bytes, which gives them at this pace. After `sound` of them every read fails, or only one if
+    /// `once` is true, and later reads give the other bytes. If there are fewer bytes than `sound`, no read fails.
+    pub fn new(bytes: &'a [u8], pace: Pace, sound: u64, once: bool) -> PlannedReel<'a>
         ensures bytes { result.bytes.now ≡ bytes.now }
         ensures pace { result.pace ≡ pace }
         ensures sound { result.sound ≡ sound }
-        ensures for_good { result.once ≡ false }
+        ensures once { result.once ≡ once }
         ensures failures { result.failures ≡ 0 }
     {
         PlannedReel {
             bytes,
             pace,
             sound,
-            once: false,
-            failures: 0,
-        }
-    }
-
-    /// A reel over these bytes, which gives them at this pace. After `sound` of them one read fails. Later reads give
-    /// the other bytes.
-    pub fn failing_once(bytes: &'a [u8], pace: Pace, sound: u64) -> PlannedReel<'a>
-        ensures bytes { result.bytes.now ≡ bytes.now }
-        ensures pace { result.pace ≡ pace }
-        ensures sound { result.sound ≡ sound }
-        ensures once { result.once ≡ true }
-        ensures failures { result.failures ≡ 0 }
-    {
-        PlannedReel {
-            bytes,
-            pace,
-            sound,
-            once: true,
+            once,
             failures: 0,
         }
     }

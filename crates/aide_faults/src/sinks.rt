@@ -38,24 +38,11 @@ impl<W> PlannedSink<W> {
         }
     }
 
-    /// A sink that takes bytes at this pace and fails once: at the write after `sound` of them, or at the first flush
-    /// if that comes before. All other calls are passed on. The sink allocates no memory itself.
-    pub fn failing_once(inner: W, pace: Pace, sound: u64) -> PlannedSink<W>
-        ensures inner { result.inner ≡ inner }
-        ensures pace { result.pace ≡ pace }
-        ensures sound { result.sound ≡ sound }
-        ensures flushes { result.flushes ≡ false }
-        ensures once { result.once ≡ true }
-        ensures failures { result.failures ≡ 0 }
+    /// This sink, but only one call fails: the first that this sink would let fail. All others are passed on.
+    pub fn once(self) -> PlannedSink<W>
+        ensures { result ≡ record self { once = true } }
     {
-        PlannedSink {
-            inner,
-            pace,
-            sound,
-            flushes: false,
-            once: true,
-            failures: 0,
-        }
+        PlannedSink { once: true, ..self }
     }
 
     /// The sink that took the bytes.

@@ -67,13 +67,10 @@ impl<'a> SidePlan<'a> {
             _ => self.bytes,
         };
         match self.broken {
-            Some(broken) if broken.opening == opening && broken.once => {
-                PlannedReel::failing_once(bytes, pace, broken.sound)
-            }
             Some(broken) if broken.opening == opening => {
-                PlannedReel::new(bytes, pace, broken.sound)
+                PlannedReel::new(bytes, pace, broken.sound, broken.once)
             }
-            _ => PlannedReel::new(bytes, pace, u64::MAX),
+            _ => PlannedReel::new(bytes, pace, u64::MAX, false),
         }
     }
 }

@@ -1,7 +1,7 @@
 //! A database that is cut, or whose reel fails, after each of its bytes.
 use super::{LIMITS, Wanted, assert_read, read_whole, refuse_each};
+use crate::PlannedReel;
 use crate::pace::PACES;
-use crate::{Pace, PlannedReel};
 use aide_db::{DbFaultKind as Kind, Desk};
 use std::alloc::Allocator;
 use std::process::Abort;
@@ -53,15 +53,6 @@ const FAILURES: [(u64, u64, u64, u64); 5] = [
     (74, 82, 2, 5),
 ];
 
-/// A reel that fails after this number of bytes.
-fn reel_of(pace: Pace, sound: u64, once: bool) -> PlannedReel<'static> {
-    if once {
-        PlannedReel::failing_once(SOUND, pace, sound)
-    } else {
-        PlannedReel::new(SOUND, pace, sound)
-    }
-}
-
 /// Reads, at each pace, from reels that fail after this number of bytes: for good, and once. The answer is the same.
 fn assert_fails<A: Allocator + Copy>(
     rt: &impl Abort,
@@ -71,7 +62,7 @@ fn assert_fails<A: Allocator + Copy>(
 ) {
     for pace in &PACES {
         for once in [false, true] {
-            let reel = reel_of(*pace, sound, once);
+            let reel = PlannedReel::new(SOUND, *pace, sound, once);
             let (entries, answer, reel) = read_whole(rt, reel, LIMITS, desk);
             let right = wanted.is_given(entries, answer);
             assert!(rt; right, "{pace:?}, after {sound}: {answer:?}");

@@ -53,7 +53,8 @@ pub(super) fn cut_once(rt: &impl Abort, alloc: Global, trial: &Trial<'_>) {
     for space in 0..trial.report.len().saturating_add(1) {
         let (front, _) = trial.report.split_at(space.min(trial.report.len()));
         let openings = titles.openings_at(space);
-        let out = PlannedSink::failing_once(MemorySink::new(alloc), Pace::new(7), space as u64);
+        let inner = MemorySink::new(alloc);
+        let out = PlannedSink::new(inner, Pace::new(7), space as u64, false).once();
         assert_cut(rt, alloc, trial, front, openings, out);
     }
 }

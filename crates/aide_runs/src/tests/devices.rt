@@ -66,7 +66,7 @@ fn stops_at_one_failure(rt: HostRuntime) -> Result<(), Fail> {
     let whole = sink.bytes();
     for sound in 0..whole.len().saturating_add(1) {
         let inner = MemorySink::new(alloc);
-        let out = PlannedSink::failing_once(inner, Pace::new(7), sound as u64);
+        let out = PlannedSink::new(inner, Pace::new(7), sound as u64, false).once();
         assert_stops(&rt, alloc, whole, sound, out)?;
     }
     Ok(())

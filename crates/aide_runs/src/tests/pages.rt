@@ -103,11 +103,8 @@ fn assert_stops(
     sound: usize,
     bytes: &mut Vec<u8>,
 ) -> Result<(), Memory> {
-    let below: Below<'_> = PlannedSink::failing_once(
-        WriteSink::new(bytes),
-        Pace::new(4096),
-        sound as u64,
-    );
+    let bytes = WriteSink::new(bytes);
+    let below: Below<'_> = PlannedSink::new(bytes, Pace::new(4096), sound as u64, false).once();
     let mut out = PagedSink::new(alloc, below)?;
     let (status, errors) = compare(alloc, old, NEW, &mut out)?;
     assert!(rt; status == 18, "status {status} at {sound}");

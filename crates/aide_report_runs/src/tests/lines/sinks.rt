@@ -45,7 +45,7 @@ fn cut_at(rt: &impl Abort, alloc: Global, given: &Given<'_>, space: usize) {
         let out = PlannedSink::new(MemorySink::new(alloc), *pace, sound, false);
         assert_cut(rt, alloc, given, front, out);
     }
-    let out = PlannedSink::failing_once(MemorySink::new(alloc), Pace::new(7), sound);
+    let out = PlannedSink::new(MemorySink::new(alloc), Pace::new(7), sound, false).once();
     assert_cut(rt, alloc, given, front, out);
     for stumble in &STUMBLES {
         let writer = StumblingWriter::new(alloc, Pace::new(7), sound, *stumble);
