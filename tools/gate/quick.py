@@ -2,10 +2,9 @@
 
 Changed is what differs from --since (origin/main), and what git does not know yet. A changed module
 is tried by the tests that import it or start a command that runs it. With --all every test runs
-that proves nothing and takes no minutes. PROGRAM is the built program; without it that of
-AIDE_PROGRAM is taken, or the last one that was proved here, or else the unproved one of
-`tools/build_unproved`. The last line is 'N passed, M failed'. This is no gate: only `tools/test`
-proves what it runs.
+that proves nothing and takes no minutes. The tests run the program of AIDE_PROGRAM, or the last one
+that was proved here, or else the unproved one of `tools/build_unproved`. The last line is 'N passed,
+M failed'. This is no gate: only `tools/test` proves what it runs.
 """
 from __future__ import annotations
 
@@ -19,7 +18,7 @@ from tests.lib.scratch import TOP
 from tests.lib.tally import Tally
 from tools.gate import unit_tests
 from tools.gate.affected import Tests
-from tools.lib.arguments import executable, parser_of
+from tools.lib.arguments import parser_of
 
 # The check of the language Python, which reads all files of it and takes most of a minute.
 PYTHON = "tests.source.test_python"
@@ -76,9 +75,6 @@ def find_program(tally: Tally) -> str | None:
 def main() -> int:
     parser = parser_of("tools.gate.quick", __doc__)
     parser.add_argument(
-        "program", metavar="PROGRAM", nargs="?", type=executable, help="a built program"
-    )
-    parser.add_argument(
         "--all", action="store_true", help="all tests that prove nothing and take no minutes"
     )
     parser.add_argument(
@@ -95,7 +91,7 @@ def main() -> int:
     if not args.all and not any(name.endswith(".py") for name in names):
         checks.remove(PYTHON)
     unit_tests.run_all(sorted(checks), tally)
-    program = args.program or find_program(tally) if modules - checks else None
+    program = find_program(tally) if modules - checks else None
     if program:
         unit_tests.run_all(sorted(modules - checks), tally, program, is_quick=True)
     return tally.status()
