@@ -2,7 +2,9 @@
 inside."""
 from __future__ import annotations
 
+import mailbox
 import os
+import re
 import shutil
 import subprocess
 import time
@@ -33,6 +35,9 @@ dma dma/mailname string localhost
 dma dma/relayhost string
 """
 SINK = Path(__file__).with_name("smtp_sink.py")
+# Where the mail systems put the mails of root, whose name in /etc/aliases is anna.
+MAILBOXES = ("var/mail/anna", "var/mail/root", "var/mail/mail", "var/log/smtp-sink")
+ALARM = "aide on "
 BOOT_SECONDS = 120
 QUIET = {"stdout": subprocess.DEVNULL, "stderr": subprocess.DEVNULL}
 
@@ -181,3 +186,20 @@ class Machine:
             self.process.kill()
             self.process.wait()
         self.process = None
+
+
+def texts_of_mail(machine: Machine) -> list[str]:
+    """The mails of aide-compare that came, the subject first; takes them all away."""
+    found = []
+    for name in MAILBOXES:
+        path = machine.root / name
+        if not path.is_file():
+            continue
+        for message in mailbox.mbox(path):
+            subject = re.sub(r"\s+", " ", str(message["Subject"]))
+            if subject.startswith(ALARM):
+                payload = message.get_payload(decode=True)
+                assert isinstance(payload, bytes)
+                found.append(f"{subject}\n\n{payload.decode()}")
+        path.write_bytes(b"")
+    return found

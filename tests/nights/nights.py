@@ -5,8 +5,7 @@ For each machine: `aide-compare setup`, then one night after the other. A night 
 Debian's own daily check, and the units of the package. DIR keeps one file for each night, and the
 databases. It needs root, mmdebstrap and systemd-nspawn.
 
-Each night is accepted by `aide-compare accept`, and all commands have to say the same numbers of
-it.
+Each night is accepted by `aide-compare accept`.
 """
 from __future__ import annotations
 
@@ -18,8 +17,7 @@ import time
 from pathlib import Path
 
 from tools.lib.arguments import parser_of
-from tests.nights.answers import COMMANDS, QUICK, answers, texts_of_mail
-from tests.nights.machine import MAILERS, SUITES, Machine, make_base
+from tests.nights.machine import MAILERS, SUITES, Machine, make_base, texts_of_mail
 
 HERE = Path(__file__).parent
 NEW = "/var/lib/aide/aide.db.new"
@@ -244,27 +242,12 @@ class Nights:
         body = texts[-1].partition("\n\n")[2].splitlines() if texts else []
         counts = {key: state[key] for key in COUNTS if state.get(key, "0") not in ("", "0")}
         said = f"{self.machine.name} {name}: {json.dumps(counts)}"
-        said += f", {len(texts)} mails, {len(body)} lines, "
-        said += truth(self.machine, state, marks is not None)
+        said += f", {len(texts)} mails, {len(body)} lines"
         if marks is not None:
             said += f", {len(marks)} marks, not in the first 40 lines: "
             said += " ".join(missing(marks, body[:40])) or "none"
             said += f", the last of them in line {line_of_last(marks, body)}"
         print(said, flush=True)
-
-
-def truth(machine: Machine, state: dict[str, str], is_twin: bool) -> str:
-    """Whether all commands say the numbers of the timer, and which do not."""
-    is_short = is_twin or state["status"] == "0"
-    said = answers(machine, state, QUICK if is_short else COMMANDS)
-    expected = said["timer"]
-    assert expected is not None
-    others = [
-        f"{name} {None if counts is None else tuple(counts)}"
-        for name, counts in said.items()
-        if counts is None or not counts.agrees(expected)
-    ]
-    return f"not as the timer: {'; '.join(others)}" if others else f"all {len(said)} agree"
 
 
 def names(line: str, mark: str) -> bool:
