@@ -1,12 +1,10 @@
-"""Standard output and standard error that fail, and files that are not what they should be."""
+"""Standard output and standard error that fail."""
 from __future__ import annotations
 
 import os
-import shutil
 import socket
 import subprocess
 import threading
-from collections.abc import Callable
 from typing import Any
 
 from tests.lib.answer import Answer, run
@@ -15,19 +13,9 @@ from tests.lib.program_test import ProgramTest, slow
 from .folder import NEW, OLD, SKIPPING, Folder, FolderTest, names
 
 NOT_WRITTEN = b"aide: cannot write the report\n"
-NOBODY = 65534
 LEAST_PAGE = 1000
 # Pairs of which something is said on standard error.
 FAULTS = [("a fault", OLD[:40], NEW), ("skipped columns", SKIPPING, SKIPPING)]
-
-Step = Callable[[bytes], None]
-# What may be where a file is named, and how it is made and taken away.
-IN_PLACE_OF_A_FILE: tuple[tuple[str, Step, Step], ...] = (
-    ("no", lambda path: None, lambda path: None),
-    ("a folder as", os.mkdir, os.rmdir),
-    ("a link to nowhere as", lambda path: os.symlink("nowhere", path), os.unlink),
-    ("the null device as", lambda path: os.symlink("/dev/null", path), os.unlink),
-)
 
 
 def closed_pipe() -> int:
@@ -65,12 +53,6 @@ def written(folder: Folder, program: bytes, stream: str) -> list[bytes]:
         theirs.send(b"")
         reader.join(5)
     return parts[:-1]
-
-
-def become_nobody() -> None:
-    if os.getuid() == 0:
-        os.setgid(NOBODY)
-        os.setuid(NOBODY)
 
 
 @slow
@@ -119,33 +101,3 @@ class DevicesTest(FolderTest):
         parts, want = written(self.folder, self.program, "stdout"), self.folder.wanted().output
         is_good = b"".join(parts) == want and len(parts) < len(want) / LEAST_PAGE
         self.holds("writes of pages", is_good, (len(parts), len(want)))
-
-    def test_files(self) -> None:
-        """Files that are missing, a folder, a link to nowhere, a device."""
-        for name in ("old", "new", "conf"):
-            path = self.folder.at(name)
-            for label, make, take_away in IN_PLACE_OF_A_FILE:
-                self.folder.pair()
-                os.unlink(path)
-                make(path)
-                self.answered(f"{label} {name}", self.folder.wanted())
-                take_away(path)
-
-    def test_unreadable(self) -> None:
-        """Files that may not be read; the program is run by a user who is not root."""
-        self.folder.pair()
-        program = self.folder.at("program")
-        shutil.copy(self.program, program)
-        for name in ("", "old", "new", "conf", "program"):
-            os.chmod(self.folder.at(name), 0o755)
-        for name, words in (
-            ("old", b"open the old database"),
-            ("new", b"open the new database"),
-            ("conf", b"read the configuration"),
-        ):
-            path = self.folder.at(name)
-            os.chmod(path, 0)
-            answer = self.folder.run(program, preexec_fn=become_nobody)
-            line = b"aide: cannot %s %s\n" % (words, path)
-            self.check("an unreadable " + name, answer, Answer(b"", line, 18))
-            os.chmod(path, 0o644)

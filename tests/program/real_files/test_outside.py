@@ -66,16 +66,6 @@ class OutsideTest(ProgramTest):
             want = folder.wanted()
             check_file_sizes(self, "a report", self.program, folder.words(), want, 31)
 
-    def test_descriptors(self) -> None:
-        """So few descriptors that not both databases can be open: of four, three are taken."""
-        with Folder() as folder:
-            folder.pair()
-            few = Answer(b"", b"aide: cannot open the new database %s\n" % folder.at("new"), 18)
-            for most in range(4, 9):
-                want = few if most == 4 else folder.wanted()
-                answer = folder.run(self.program, preexec_fn=limited(resource.RLIMIT_NOFILE, most))
-                self.check("few descriptors", answer, want)
-
     def test_devices(self) -> None:
         """Devices as files: the null device is empty, the others never end a line or give
         anything."""
