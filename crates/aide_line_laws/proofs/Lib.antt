@@ -21,7 +21,6 @@ pub mod AccountLaws
 pub mod ListLaws
 pub mod MapLaws
 mod FrontExamples
-pub mod NoEntries
 pub mod RunMapLaws
 pub mod OutcomeLaws
 pub mod Examples

@@ -17,7 +17,7 @@ use Rattle.aide_line_laws.specs.OverMaps.{HasSaidAll, left_out_of}
 use Rattle.aide_line_laws.specs.TextFields.{fields_of_texts}
 use Rattle.aide_line_laws.proofs.JsonLaws.{ArePathsOfBytes, lines_are_complete, lines_are_json}
 use Rattle.aide_line_laws.proofs.MapLaws.{lines_of_texts_say_all}
-use Rattle.aide_line_laws.proofs.NoEntries.{no_entries_are_none}
+use Rattle.aide_line_run.proofs.NoEntries.{no_entries_are_none}
 
 -- After `Ok` a run over four texts of bytes has written lines that say all of the first two maps, by what the trusted two
 -- have at each path and by what the list leaves out.
