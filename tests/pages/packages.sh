@@ -132,19 +132,7 @@ try_days() {
     check 'day 2: a mail with the counts' wait_for 10 grep -q '^Subject: .*: 3 open .*of 3 changes$' "$mails"
     check 'day 2: the mail names the new file' grep -q '^ *added .*/srv/www/added by the intruder ü' "$mails"
     check 'day 2: the check is WARNING' ends_with 1 as_nobody /usr/local/lib/nagios/plugins/check_aide_compare
-    check "day 3: Debian's nightly run" nightly
-    check 'day 3: cron has run' cron_has_run
-    check 'day 3: the mail comes again' grep -q '^Subject: .*: 3 open ' "$mails"
     check 'nobody else reads a database' ends_with 1 as_nobody cat /var/lib/aide/aide.db.new
-    touch -d '3 days ago' /var/lib/aide/aide.db.new
-    : > "$mails"
-    check 'AIDE stops: cron has run' cron_has_run
-    check 'AIDE stops: a mail says so' grep -q '^Subject: .*: no comparison (status 18)$' "$mails"
-    check 'AIDE stops: the state says why' grep -q '"error": ".*aide.db.new is 3 days old, more than --max-age allows' "$state"
-    check 'AIDE stops: the check is UNKNOWN' ends_with 3 as_nobody /usr/local/lib/nagios/plugins/check_aide_compare
-    check "AIDE runs again: Debian's nightly run" nightly
-    check 'AIDE runs again: cron has run' cron_has_run
-    check 'AIDE runs again: the check is WARNING' ends_with 1 as_nobody /usr/local/lib/nagios/plugins/check_aide_compare
 }
 
 nagios_says() { grep -q 'plugin_output=AIDE WARNING: 3 open .*of 3 changes: 1 added, 1 removed, 1 changed' /var/lib/nagios4/status.dat; }
@@ -181,10 +169,8 @@ try_ssh() {
     chmod 600 /root/.ssh/authorized_keys
     /usr/sbin/sshd -D -p 2222 -o ListenAddress=127.0.0.1 -o PermitRootLogin=forced-commands-only -o UsePAM=no \
         > "$folder/sshd" 2>&1 &
-    printf 'Host www\n  HostName 127.0.0.1\n  Port 2222\nHost down\n  HostName 127.0.0.1\n  Port 2223\n' > /root/.ssh/config
+    printf 'Host www\n  HostName 127.0.0.1\n  Port 2222\n' > /root/.ssh/config
     printf 'www\n' > "$folder/www"
-    check 'an unknown host key is refused' ends_with 18 aide-compare hosts compare "$folder/www"
-    check 'and nothing was fetched' test ! -e /var/lib/aide-compare/hosts/www/aide.db.new
     wait_for 20 ssh-keyscan -p 2222 127.0.0.1
     ssh-keyscan -p 2222 127.0.0.1 > /root/.ssh/known_hosts 2> /dev/null
     check 'the first fetch by ssh finds no baseline' ends_with 18 aide-compare hosts compare "$folder/www"
@@ -193,11 +179,10 @@ try_ssh() {
     check 'the key reads nothing else' cmp /var/lib/aide/aide.db.new "$folder/forced"
     cp /var/lib/aide/aide.db /var/lib/aide-compare/hosts/www/aide.db
     mkdir -p /etc/aide-compare /var/log/aide-compare
-    printf 'www\ndown\n' > /etc/aide-compare/hosts
-    check 'aide-compare hosts compare by ssh' ends_with 18 aide-compare hosts compare /etc/aide-compare/hosts
+    printf 'www\n' > /etc/aide-compare/hosts
+    check 'aide-compare hosts compare by ssh' ends_with 7 aide-compare hosts compare /etc/aide-compare/hosts
     aide-compare hosts compare --quiet /etc/aide-compare/hosts > "$folder/lines"
     check 'the line of a host' grep -q '^www 7 added 1, removed 1, changed 1: 3 open ' "$folder/lines"
-    check 'the line of a host that is down' grep -q '^down 18 .*Connection refused' "$folder/lines"
 }
 
 try_ansible() {
