@@ -13,7 +13,6 @@ from tests.lib.program_test import slow
 from tests.lib.programs import lines_program_of
 from tests.lib.scratch import TOP, read
 from tests.packaging.installation import InstallTest, texts, tree
-from tests.packaging.test_completions import HOSTS, SUBCOMMANDS
 from tests.packaging.test_install import DOCUMENTS
 
 # The paths below a prefix that the installed texts name.
@@ -32,17 +31,13 @@ UNKNOWN = "a proved build: not known: no proof has noted that it built this file
 @slow
 class InstalledTest(InstallTest):
     def test_programs(self) -> None:
-        """The installed program compares, and each installed command prints a help."""
+        """The installed program compares."""
         command = self.first("bin/aide-compare")
         self.assertEqual(os.listdir(self.first("bin")), ["aide-compare"], "one command")
         examples = os.path.join(TOP, "examples")
         words = ["-E", "-c", examples + "/aide.conf", "-B", f"@@define DIR {examples}"]
         done = self.run_words([command, *words])
         self.assertEqual((done.status, done.output_text[:22]), (7, "AIDE found differences"), done)
-        for subcommand in SUBCOMMANDS + HOSTS:
-            done = self.run_words([command, *subcommand.split(), "--help"])
-            self.assertEqual((done.status, done.error_text), (0, ""), done)
-            self.assertIn("usage: aide-compare", done.output_text, subcommand)
 
     def test_version_of_programs(self) -> None:
         """The version says which programs there are, and which of them are run. Proved is what has
