@@ -135,8 +135,8 @@ class TextsTest(MailTest):
         assert message is not None
         data = data_in(body(message.get_payload()[1]))
         self.assertEqual(data["heading"]["remarks"][0].split(" changes")[0], "0 of 4")
-        failing = "def head_of(*words):\n    raise KeyError('an odd report')\n"
-        self.after_import("show.page", "head_of\n" + failing)
+        failing = "def heading_of(*words):\n    raise KeyError('an odd report')\n"
+        self.after_import("show.page", "heading_of\n" + failing)
         text = body(self.mail("--attach-page", "old.db", "new.db"))
         said = "there is no page: a fault of this command: KeyError: 'an odd report'"
         self.assertTrue(words_of(text).endswith(said), text)

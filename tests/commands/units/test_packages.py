@@ -21,7 +21,7 @@ GONE = Package(
 INFO = b"/var/lib/dpkg/info/"
 
 
-ASKED = {b"/usr/bin/tool\n": b"/usr/bin/tool"}
+ASKED = {b"/usr/bin/tool\n": 1}
 
 
 class MembersTest(ModuleTest):
@@ -67,5 +67,5 @@ class PackagesTest(ModuleTest):
         members: Members = {}
         with mock.patch.object(packages, "MAX_PACKAGES", 2):
             for name in ("one", "two", "three"):
-                add_member(members, b"/a", Member(name))
-        self.expect("what was found", members, {b"/a": [Member("one"), Member("two")]})
+                add_member(members, 1, Member(name))
+        self.expect("what was found", members, {1: [Member("one"), Member("two")]})

@@ -10,14 +10,15 @@ from aide_compare.base import rows
 from aide_compare.base.paths import key_of_path
 from aide_compare.base.words import SEVERITIES
 from aide_compare.changes import table as tables
+from aide_compare.changes.severity import RANKS
 from aide_compare.changes.table import Table
 from aide_compare.changes.weighing import Weighed, directory_of, group_of_owner, party_of
 
 
 def change(path: bytes) -> Weighed:
     key = key_of_path(path)
-    place = (SEVERITIES.index("high"), group_of_owner(0), 0, party_of(0))
-    return Weighed(key, directory_of(key), "changed", *place, "file", False, 0, 0)
+    place = (group_of_owner(0), SEVERITIES.index("high") * RANKS, party_of(0))
+    return Weighed(key, directory_of(key), "changed", *place, "", 0, 0)
 
 
 def table_of(*changes: Weighed) -> Table:

@@ -1,15 +1,15 @@
 """What a line alone says of a change: the rights of both sides, and which attributes differ."""
 from __future__ import annotations
 
-import json
 from typing import Any, Dict
 
 from tests.commands.units.calls import ModuleTest
+from tests.commands.units.streams import line_of
 
 from aide_compare.base.paths import key_of_path
-from aide_compare.changes.weighing import MAX_LINE, Scales, Weighed, is_content
+from aide_compare.changes.weighing import Scales, Weighed, is_content
 from aide_compare.lines.change import change_of
-from aide_compare.lines.reader import Outline
+from aide_compare.lines.reader import MAX_LINE, Outline
 from aide_compare.lines.rights import differing, rights_of
 
 SAME = "f...........H....."
@@ -30,9 +30,9 @@ def fields_of(letters: str = SAME, **sides: Dict[str, Any]) -> Dict[str, Any]:
 
 
 def weighed(scales: Scales, fields: Dict[str, Any]) -> Weighed:
-    line = json.dumps(fields).encode()
     path = PATH.encode()
-    return scales.weighed(Outline(fields["kind"], path, None, key_of_path(path), line), fields, 7)
+    line = line_of(fields)
+    return scales.weighed(Outline(fields["kind"], path, None, key_of_path(path), line), 7)
 
 
 class WeighingTest(ModuleTest):
@@ -63,7 +63,7 @@ class WeighingTest(ModuleTest):
         for side in (OLD, {**OLD, "Pad": "x" * MAX_LINE}):
             again = weighed(scales, fields_of(letters, old=side, new=set_id))
             self.assertEqual(again[:-1], came[:-1], "known, or too long to be kept")
-        self.assertEqual((came.line_at, came.party, came.form), (7, None, "file"))
+        self.assertEqual((came.line_at, came.party, came.asked), (7, None, ""))
 
     def test_remembered(self) -> None:
         """An access list in base 16 counts, although such rights without it came before."""
@@ -134,4 +134,4 @@ class WeighingTest(ModuleTest):
             ("a mode that is not known", fields_of(old=old, new=unknown), False),
             ("another owner", fields_of(old=OLD, new={**NEW, "UID": 1}), False),
         ):
-            self.expect(label, weighed(scales, fields).may_be_recorded, is_it)
+            self.expect(label, weighed(scales, fields).asked == "content", is_it)

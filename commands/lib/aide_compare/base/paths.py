@@ -24,6 +24,7 @@ _UNUSUAL = re.compile(rb"\A0|[^!-~]|%")
 _LOW_BYTE = re.compile(rb"[\x00-\x0a]")
 _RAISED_BYTE = re.compile(rb"\x02(.)", re.S)
 WILD = re.compile(rb"[*?\[\\]")
+SLASH = b"\1"  # In a key.
 # What fnmatch takes otherwise: an escaped byte, and a class, whose first byte may be any, with its
 # sign before that.
 TOKEN = rb"(?s)\\(.?)|\[(?:([!^])|(?![!^]))(.[^]]*)\]|\["
@@ -51,12 +52,14 @@ def key_of(field: bytes) -> bytes:
 def key_of_path(path: bytes) -> bytes:
     """The key of a path whose escapes are decoded already."""
     raised = _LOW_BYTE.sub(lambda match: bytes([2, match.group()[0] + 32]), path)
-    return raised.replace(b"/", b"\x01")
+    return raised.replace(b"/", SLASH)
 
 
 def path_of(key: bytes) -> bytes:
     """The path that has a key."""
-    path = key.replace(b"\x01", b"/")
+    path = key.replace(SLASH, b"/")
+    if b"\2" not in path:
+        return path
     return _RAISED_BYTE.sub(lambda match: bytes([match.group(1)[0] - 32]), path)
 
 

@@ -16,7 +16,7 @@ from aide_compare.changes.recorded import Matcher
 from aide_compare.changes.rpm import Rpm
 from aide_compare.changes.table import Row, Table
 from aide_compare.changes.usr import link_here, usr_of
-from aide_compare.changes.weighing import DECODE, Scales, Weighed
+from aide_compare.changes.weighing import Scales, Weighed
 from aide_compare.lines.change import Change, Counts, change_of
 from aide_compare.lines.reader import Reader
 
@@ -45,7 +45,7 @@ class Judged:
         line_at = self.file.tell()
         for outline in reader.outlines():
             if outline.silent is None:
-                yield scales.weighed(outline, DECODE(outline.line.decode())[0], line_at)
+                yield scales.weighed(outline, line_at)
             else:
                 self.silent[outline.silent.key] += 1
                 if outline.left_out:

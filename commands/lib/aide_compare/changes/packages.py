@@ -44,19 +44,19 @@ class Member(NamedTuple):
     link: bytes | None = None
 
 
-# By the paths that are asked for.
-Members = dict[bytes, list[Member]]
-# The paths that are asked for by the lines of records that name them.
-Asked = Mapping[bytes, bytes]
+# By the numbers of the paths that are asked for.
+Members = dict[int, list[Member]]
+# The numbers of paths that are asked for, by the lines of records that name them.
+Asked = Mapping[bytes, int]
 # Of a paragraph of dpkg's status.
 Fields = dict[bytes, bytes]
 # The packages that people hear of first, by the title above them.
 NamedPackages = dict[str, list[str]]
 
 
-def add_member(members: Members, path: bytes, member: Member) -> None:
+def add_member(members: Members, number: int, member: Member) -> None:
     """Takes what records say of a path. Whoever writes them may say it again and again."""
-    found = members.setdefault(path, [])
+    found = members.setdefault(number, [])
     if len(found) < MAX_PACKAGES:
         found.append(member)
 

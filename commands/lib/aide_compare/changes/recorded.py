@@ -3,13 +3,13 @@ mode, an owner or another right that differs, or that nobody expects of a new fi
 from __future__ import annotations
 
 import os
-from collections.abc import Callable, Iterator
+from collections.abc import Callable
 from contextlib import suppress
 
 from aide_compare.base.ending import Fault
 from aide_compare.base.files import BLOCK, open_regular
 from aide_compare.base.paths import path_of
-from aide_compare.changes.packages import Asked, Dpkg, Member, Members
+from aide_compare.changes.packages import Dpkg, Member, Members
 from aide_compare.changes.rpm import Rpm
 from aide_compare.changes.table import Row, Table
 from aide_compare.lines.attributes import COLUMNS_OF_DIGESTS
@@ -18,7 +18,7 @@ from aide_compare.lines.readable import exact_bytes
 
 MAX_CONTENT = 2 << 30
 # So many bytes of paths are asked for at once, and so many count for a path beside its own.
-MAX_ASKED = 1 << 21
+MAX_ASKED = 1 << 22
 BESIDE = 150
 # Two files with one digest of less than 256 bits may be made on purpose: these say what a content
 # is, and every Python computes them.
@@ -28,8 +28,6 @@ STRONG = frozenset(("sha256", "sha512", "sha3_256", "sha3_512"))
 Read = Callable[[Row], Change]
 # In base 16, by columns.
 Digests = dict[str, str]
-# The places of rows by their paths: some thousand are in memory at once.
-Places = dict[bytes, int]
 
 
 def digests_of(values: Values) -> Digests:
@@ -91,33 +89,6 @@ class Contents:
         return {}
 
 
-def _asked(changes: Table) -> Iterator[Places]:
-    """The changes that may be recorded, some thousand at once."""
-    asked: Places = {}
-    size = 0
-    question = "select place, path_key from changes where may_be_recorded order by place"
-    for place, key in changes.ask(question):
-        asked[path_of(key)] = place
-        size += len(key) + BESIDE
-        if size > MAX_ASKED:
-            yield asked
-            asked = {}
-            size = 0
-    if asked:
-        yield asked
-
-
-def lines_for(paths: set[bytes], usr: Callable[[bytes], bytes]) -> Asked:
-    """Paths by the lines of records that name them. These have a path without /usr if its directory
-    is a link."""
-    lines = {path + b"\n": path for path in paths}
-    for path in paths:
-        bare = path[len(b"/usr") :]
-        if usr(bare) == path:
-            lines[bare + b"\n"] = path
-    return lines
-
-
 class Matcher:
     """Finds out which changes are as records have them: some thousand at once, so that what records
     have of them is in memory only for these. `usr` gives a path as the database has it."""
@@ -127,31 +98,49 @@ class Matcher:
         self.usr = usr
         self.read = read
         self.contents = Contents()
+        self.asked: dict[bytes, int] = {}
         self.members: Members = {}
 
     def match(self, changes: Table) -> None:
         """Notes the changes that are recorded, with their package."""
-        for asked in _asked(changes):
-            self._match(changes, asked)
+        size = 0
+        question = "select place, path_key from changes where asked != '' order by place"
+        for place, key in changes.ask(question):
+            self._ask_for(path_of(key), place)
+            size += len(key) + BESIDE
+            if size > MAX_ASKED:
+                self._match(changes)
+                size = 0
+        if self.asked:
+            self._match(changes)
 
-    def _match(self, changes: Table, asked: Places) -> None:
+    def _ask_for(self, path: bytes, number: int) -> None:
+        """Asks for a path, by the lines of records that name it. These have a path without /usr if
+        its directory is a link."""
+        self.asked.setdefault(path + b"\n", number)
+        bare = path[len(b"/usr") :]
+        if self.usr(bare) == path:
+            self.asked.setdefault(bare + b"\n", number)
+
+    def _match(self, changes: Table) -> None:
         """Notes those of some changes that are recorded, after the records were asked for them and
-        for the targets of links."""
-        wanted = set(asked)
-        links = "form = 'link' and place between ? and ?"
-        for row in changes.rows(links, min(asked.values()), max(asked.values())):
+        for the targets of links, which have numbers below 0."""
+        places = self.asked.values()
+        links = "asked = 'target' and place between ? and ?"
+        for row in changes.rows(links, min(places), max(places)):
             target = target_of(row.path, self.read(row).new)
             if target is not None:
-                wanted.add(self.usr(target))
-        self.members = self.records.members(lines_for(wanted, self.usr))
-        for path, place in asked.items():
-            if path in self.members:
+                self._ask_for(self.usr(target), -row.place)
+        self.members = self.records.members(self.asked)
+        for place in sorted(self.members):
+            if place > 0:
                 self._note(changes, changes.row(place))
+        self.asked.clear()
 
     def _note(self, changes: Table, row: Row) -> None:
         """Notes the package of a change, if records have its content."""
         change = self.read(row)
-        for member in self.members[row.path]:
+        for member in self.members[row.place]:
             if self._has(change, member):
                 changes.record(row.place, member.package)
                 return
@@ -166,5 +155,6 @@ class Matcher:
             return link_of(new) == member.link
         if change.type == "Link":
             target = self.usr(target_of(change.path, new) or b"/")
-            return any(other.package == member.package for other in self.members.get(target, ()))
+            others = self.members.get(self.asked.get(target + b"\n", 0), ())
+            return any(other.package == member.package for other in others)
         return change.type == "Directory" and change.kind == "added"

@@ -248,12 +248,15 @@ class Severity:
         """The rank by the first row that means a path."""
         if len(path) > MAX_PATH:
             return OTHER_RANK
-        inside = self.top
-        pieces = path[1:].split(b"/")
-        last = pieces.pop()
-        for piece in pieces:
-            inside = inside.below(piece)
-        for test, rank in inside.tests(held):
+        directory, _, last = path.rpartition(b"/")
+        for test, rank in self._inside(directory).tests(held):
             if test is None or test(last):
                 return rank
         return OTHER_RANK
+
+    @lru_cache(maxsize=64)
+    def _inside(self, directory: bytes) -> Inside:
+        inside = self.top
+        for piece in directory.split(b"/")[1:]:
+            inside = inside.below(piece)
+        return inside

@@ -5,37 +5,39 @@ from __future__ import annotations
 from collections import Counter
 from collections.abc import Iterable, Iterator
 from functools import lru_cache
-from itertools import islice
+from itertools import chain, islice, starmap
 from typing import NamedTuple
 
 from aide_compare.base.ending import Fault, Status
 from aide_compare.base.paths import key_of_path, path_of
 from aide_compare.base.rows import Rows
 from aide_compare.base.words import SEVERITIES, status_of_counts
+from aide_compare.changes.severity import RANKS
 from aide_compare.changes.weighing import Weighed
 from aide_compare.lines.change import Counts
 from aide_compare.lines.reader import embedded
 
 # A table of more rows is refused.
 MAX_ROWS = 1000000
-SCHEMA = """
+SCHEMA = f"""
 create table changes (
-    place integer primary key, path_key blob, site blob, kind text, level integer, owners integer,
-    rank integer, party integer, form text, may_be_recorded integer, line_at integer,
-    line_size integer, hosts integer default 1, standing text default 'open',
-    package text default '', is_listed integer default false
+    place integer primary key, path_key blob, site blob, kind text, owners integer, rank integer,
+    party integer, asked text, line_at integer, line_size integer, hosts integer default 1,
+    standing text default 'open', package text default '', is_listed integer default false,
+    level integer as (rank / {RANKS})
 )"""
-INSERT = f"""
-insert into changes ({', '.join(Weighed._fields)})
-values ({', '.join('?' for _ in Weighed._fields)})"""
+INSERT = f"insert into changes ({', '.join(Weighed._fields)}) values "
+PLACES = f"({', '.join('?' for _ in Weighed._fields)})"
+# So many rows are inserted at once.
+STEP = 32
 # What people read first. Of one severity that is what is root's, then what is a service's; what the
 # fewest of many hosts have; what the first line of the table of severities means, such as set-ID
 # bits; what was removed or changed before what was added; and then the path has the last word.
 ORDER = "level, owners, hosts, rank, kind = 'added', place"
 LISTED = "standing = 'open'"
 RECORDED = "standing = 'recorded'"
-# What is open in this order, and then what is recorded, package by package.
-BY_STANDING = f"standing, count(*) over (partition by package) desc, package, {ORDER}"
+# What is recorded, package by package.
+BY_PACKAGE = f"count(*) over (partition by package) desc, package, {ORDER}"
 
 
 class Marks(NamedTuple):
@@ -50,6 +52,12 @@ class Marks(NamedTuple):
         """What is known of them, as the end of an object that has other members before."""
         known = {name: value for name, value in self._asdict().items() if value}
         return embedded(known).replace(b"{", b",", 1)
+
+
+@lru_cache(maxsize=1024)
+def marks_of(standing: str, level: int, package: str) -> Marks:
+    """The marks of a change that is not silent."""
+    return Marks(standing, SEVERITIES[level], package)
 
 
 class Row(NamedTuple):
@@ -75,7 +83,7 @@ class Row(NamedTuple):
 
     @property
     def marks(self) -> Marks:
-        return Marks(self.standing, self.severity, self.package)
+        return marks_of(self.standing, self.level, self.package)
 
 
 COLUMNS = ", ".join(Row._fields)
@@ -92,7 +100,9 @@ class Table(Rows):
 
     def add(self, changes: Iterable[Weighed]) -> None:
         """Takes changes in the order of paths; a Fault if they are too many."""
-        self.do_all(INSERT, islice(changes, MAX_ROWS + 1))
+        values = chain.from_iterable(islice(changes, MAX_ROWS + 1))
+        while some := list(islice(values, STEP * len(Weighed._fields))):
+            self.do(INSERT + ", ".join([PLACES] * (len(some) // len(Weighed._fields))), *some)
         if len(self) > MAX_ROWS:
             text = f"there are more than {MAX_ROWS} changes that are not silent"
             raise Fault(Status.DEVICE, text)
@@ -101,6 +111,11 @@ class Table(Rows):
         """Yields rows in an order, the one in which people read them if no other is given."""
         question = f"select {COLUMNS} from changes where {condition} order by {order}"
         return map(Row._make, self.ask(question, *values))
+
+    def marks(self) -> Iterator[Marks]:
+        """Yields those of all, in the order of paths."""
+        question = "select standing, level, package from changes order by place"
+        return starmap(marks_of, self.ask(question))
 
     def row(self, place: int) -> Row:
         return next(self.rows("place = ?", place))

@@ -2,28 +2,19 @@
 of it."""
 from __future__ import annotations
 
-import json
 import re
 from typing import NamedTuple
 
 from aide_compare.base.database import SET_ID
-from aide_compare.changes.severity import RANKS, Held, Severity, has_same_rights, held_by
+from aide_compare.base.paths import SLASH
+from aide_compare.changes.severity import Held, Severity, has_same_rights, held_by
 from aide_compare.lines.change import Fields
-from aide_compare.lines.reader import Outline
+from aide_compare.lines.reader import ByForm, Outline
 from aide_compare.lines.rights import ROOT, Side, owner_of, rights_of
 
-SLASH = b"\1"  # In a key.
 MAX_NUMBER = (1 << 63) - 1
 UNKNOWN = -1
 FIRST_USER = 1000  # The first number of a user who is no service, as in login.defs(5).
-MAX_REMEMBERED = 1 << 10
-# The rights of longer lines are looked at each time, so that what is remembered has a bound.
-MAX_LINE = 1 << 11
-NOTHING: Fields = {}
-# Gives the object of a line, and its end. json.loads would look for an encoding and for blanks.
-DECODE = json.JSONDecoder().raw_decode
-# The members of a side that say its rights, but for those in base 16, which are rare.
-MEMBERS = ("Type", "Perm", "UID", "GID", "ACL", "XAttrs", "SELinux", "Caps")
 # The summary strings of a change of a content, or of where a link points: of those with a letter
 # of no difference in all slots but these.
 CONTENT = re.compile(r"[^!][. ]..[. ]{3}....[. ].[. ]{5}")
@@ -31,14 +22,14 @@ TARGET = re.compile(r"[^!]...[. ]{3}....[. ]{7}")
 
 
 class Known(NamedTuple):
-    """What is the same of all changes of entries with the same rights on both sides."""
+    """What is the same of all changes whose lines have one form."""
 
     held: Held
     owners: int  # The group of its owner.
     # The number of the user who may have many such changes; None for root.
     party: int | None
-    form: str  # "file", "link" or "": of the new entry, or of the one that went.
-    has_content: bool  # Whether records could say something, by the rights alone.
+    # What records could say of the entry: its "content", or the "target" of a link; or nothing.
+    asked: str
 
 
 class Weighed(NamedTuple):
@@ -47,12 +38,10 @@ class Weighed(NamedTuple):
     path_key: bytes
     site: bytes  # The key of its directory.
     kind: str
-    level: int  # The place of its severity in SEVERITIES.
     owners: int
     rank: int
     party: int | None
-    form: str
-    may_be_recorded: bool  # Whether nothing but a content came or changed.
+    asked: str
     line_at: int
     line_size: int
 
@@ -93,23 +82,14 @@ def may_be_content(old: Side, new: Side) -> bool:
     return has_same_rights(old, new)
 
 
-def form_of(rights: Side) -> str:
-    if rights is not None and rights.is_file:
-        return "file"
-    if rights is not None and rights.is_link:
-        return "link"
-    return ""
-
-
-def known_of(old: Side, new: Side) -> Known:
+def known_of(fields: Fields) -> Known:
+    """The same of the object of a line."""
+    old, new = rights_of(fields)
     owner = owner_of(old, new)
-    return Known(
-        held=held_by(old, new),
-        owners=group_of_owner(owner),
-        party=party_of(owner),
-        form=form_of(new or old),
-        has_content=may_be_content(old, new),
-    )
+    asked = ""
+    if new is not None and may_be_content(old, new) and is_content(fields, new.is_link):
+        asked = "target" if new.is_link else "content"
+    return Known(held_by(old, new), group_of_owner(owner), party_of(owner), asked)
 
 
 def is_content(fields: Fields, is_link: bool) -> bool:
@@ -125,40 +105,23 @@ def is_content(fields: Fields, is_link: bool) -> bool:
 
 
 class Scales:
-    """Weighs the changes of lines. Most entries have the rights of many others."""
+    """Weighs the changes of lines. Most have the form of others."""
 
     def __init__(self) -> None:
         self.severity = Severity()
-        self.known: dict[object, Known] = {}
+        self.known = ByForm(known_of)
 
-    def weighed(self, outline: Outline, fields: Fields, line_at: int) -> Weighed:
-        """A change by its line, which has this object, and begins there."""
-        known = self._known(fields, outline.line)
-        rank = self.severity.rank(outline.path, known.held)
+    def weighed(self, outline: Outline, line_at: int) -> Weighed:
+        """A change by its line, which begins there."""
+        known = self.known.of(outline.line)
         return Weighed(
             outline.key,
             directory_of(outline.key),
             outline.kind,
-            rank // RANKS,
             known.owners,
-            rank,
+            self.severity.rank(outline.path, known.held),
             known.party,
-            known.form,
-            known.has_content and is_content(fields, known.form == "link"),
+            known.asked,
             line_at,
             len(outline.line),
         )
-
-    def _known(self, fields: Fields, line: bytes) -> Known:
-        if len(line) > MAX_LINE or b'_hex":' in line:
-            return known_of(*rights_of(fields))
-        old = fields.get("old", NOTHING)
-        new = fields.get("new", NOTHING)
-        kind = (fields["kind"], fields["summary"][0])
-        key = (kind, *map(old.get, MEMBERS), *map(new.get, MEMBERS))
-        known = self.known.get(key)
-        if known is None:
-            known = known_of(*rights_of(fields))
-            if len(self.known) < MAX_REMEMBERED:
-                self.known[key] = known
-        return known

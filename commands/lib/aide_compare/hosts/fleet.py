@@ -10,8 +10,9 @@ import json
 from collections.abc import Iterable, Sequence
 
 from aide_compare.base.words import SIDES
+from aide_compare.changes.severity import RANKS
 from aide_compare.changes.table import Row, Table
-from aide_compare.changes.weighing import DECODE, Scales
+from aide_compare.changes.weighing import Scales
 from aide_compare.hosts.report_values import SharedChange
 from aide_compare.lines.attributes import FORMS
 from aide_compare.lines.change import Fields
@@ -24,21 +25,21 @@ MEMBERS = frozenset("kind path path_hex summary type old new".split())
 # attributes that are of the host, and its line, which the first of those that are the same has.
 FOUND = """
 create table found (
-    host integer, path_key blob, same blob, kind text, level integer, owners integer, rank integer,
-    old blob, own text, line blob
+    host integer, path_key blob, same blob, kind text, owners integer, rank integer, old blob,
+    own text, line blob
 )"""
 INDEX = "create index found_same on found (same, host)"
 INSERT = """
 insert into found values (
-    ?1, ?2, ?3, ?4, ?5, ?6, ?7, ?8, ?9,
-    case when exists (select 1 from found where same = ?3) then null else ?10 end
+    ?1, ?2, ?3, ?4, ?5, ?6, ?7, ?8,
+    case when exists (select 1 from found where same = ?3) then null else ?9 end
 )"""
 LOADS = "create table loads as select host, count(*) as load from found group by host"
 # Each change once. It counts against the host that has the fewest changes of those that have it: in
 # the row this is the site, and `line_at` says which of the changes of a host it is.
 GATHER = """
-insert into changes (path_key, site, kind, level, owners, rank, line_at, hosts)
-select path_key, host, kind, level, owners, rank, place, hosts
+insert into changes (path_key, site, kind, owners, rank, line_at, hosts)
+select path_key, host, kind, owners, rank, place, hosts
 from (
     select *, found.rowid as place, count(*) as hosts, min(load)
     from found join loads using (host) group by same
@@ -75,22 +76,21 @@ class Fleet:
 
     def add(self, host: int, outline: Outline) -> None:
         """Takes a change of the host with this number."""
-        fields = DECODE(outline.line.decode())[0]
-        weighed = self.scales.weighed(outline, fields, 0)
-        fields = differing(fields)
+        weighed = self.scales.weighed(outline, 0)
+        fields = differing(json.loads(outline.line))
         own = OWN
         if fields.get("type") == "Directory":
             own = OWN | {"Size"}  # The size of a directory is one of these values, too.
         old = fields.get("old", {})
         new = fields.get("new", {})
         labels = {label_of(name) for name in (*old, *new)}
-        what = (outline.path.hex(), outline.kind, fields.get("type"), weighed.level, weighed.owners)
+        level = weighed.rank // RANKS
+        what = (outline.path.hex(), outline.kind, fields.get("type"), level, weighed.owners)
         row = (
             host,
             outline.key,
             digest_of(what, sorted(labels - own), without(new, own)),
             outline.kind,
-            weighed.level,
             weighed.owners,
             weighed.rank,
             digest_of(without(old, own)),

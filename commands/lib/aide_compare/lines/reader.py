@@ -7,24 +7,25 @@ import json
 import os
 import re
 from collections import Counter
-from collections.abc import Iterator
+from collections.abc import Callable, Iterator
 from contextlib import suppress
-from typing import Any, BinaryIO, NamedTuple
+from functools import partial
+from typing import Any, BinaryIO, Generic, NamedTuple, TypeVar
 
 from aide_compare.base.ending import Fault, Status
 from aide_compare.base.files import BLOCK
-from aide_compare.base.paths import key_of_path
+from aide_compare.base.paths import SLASH, key_of_path
 from aide_compare.base.words import KINDS, SIDES, TRUSTED_SIDES, status_of_counts
 from aide_compare.lines.change import STANDING_BY_PROOF, LEFT_OUT, Fields, Standing, account_of
 from aide_compare.lines.change import change_of, left_out_by, silent_by
 
+T = TypeVar("T")
 FORMAT = 4
 # An entry has at most the bytes of two lines of databases, and six times as many in JSON, some of
 # them in base 16 too.
 LINE_LIMIT = 1 << 25
 DIGEST_BYTES = 32
 HEX = "_hex"  # At the end of the name of a text in base 16.
-NO_END = "this ends too early: the last line is missing"
 # What a member of another type, or one that is missing, raises.
 ODD = (ValueError, KeyError, TypeError, AttributeError)
 ENCODE = json.JSONEncoder(separators=(",", ":")).encode
@@ -33,6 +34,12 @@ OUTLINE = re.compile(
     rb'\{"kind":"(added|removed|changed)","path":"(/[^"\\\x00-\x1f]*)","summary":"[^"\\]*"'
     rb'(?:,"same_as":"(old|trusted)"|,"left_out":([1-9][0-9]{0,9}))?[,}]'
 )
+KIND_END = len(b'{"kind":"add')
+AFTER_PATH = b',"summary":'
+# The numbers and the digests of a line, by the ends of the names of their attributes.
+VALUE = re.compile(rb'":(?:(?<=[et]":)[0-9]+|(?<=[0-9BRT]":)"[0-9a-f]+"|(?<=[AO]L":)"[0-9a-f]+")')
+MAX_FORMS = 1 << 10
+MAX_LINE = 1 << 11
 KINDS_BY_BYTES = {kind.encode(): kind for kind in KINDS}
 PROOFS = {proof.encode(): standing for proof, standing in STANDING_BY_PROOF.items()}
 # The counts of the end by the accounts of lines.
@@ -48,12 +55,30 @@ def embedded(fields: object) -> bytes:
     return ENCODE(fields).replace("<", "\\u003c").encode()
 
 
+class ByForm(Generic[T]):
+    """What is the same of all lines of one form, by their objects. The form of a line is its text
+    without its path, numbers and digests: no right is one of these, and most lines have the form of
+    many others. Those of long lines are not remembered, so that all have a bound."""
+
+    def __init__(self, work: Callable[[Fields], T]) -> None:
+        self.work = work
+        self.known: dict[object, T] = {}
+
+    def of(self, line: bytes) -> T:
+        form = (line[:KIND_END], VALUE.sub(b"", line.rpartition(AFTER_PATH)[2]))
+        value = self.known.get(form)
+        if value is None:
+            value = self.work(json.loads(line))
+            if len(self.known) < MAX_FORMS and len(line) <= MAX_LINE:
+                self.known[form] = value
+        return value
+
+
 class Refused(Fault):
     """What is wrong with a line, so that the whole is no stream of lines."""
 
     def __init__(self, number: int, words: str) -> None:
-        text = f"line {number}: {words}" if number else words
-        super().__init__(Status.DEVICE, text)
+        super().__init__(Status.DEVICE, f"line {number}: {words}")
 
 
 class Outline(NamedTuple):
@@ -121,11 +146,11 @@ class Reader:
 
     def __init__(self, file: BinaryIO) -> None:
         self.file = file
-        self.number = 0
         self.end: Fields = {}
         self.counts = NOTHING_COUNTED
         self._counted: Counter[object] = Counter()  # By kind, and by account.
-        self.summary = self._object_of(self._line("nothing was given: was nothing compared?"))
+        self.number = 1
+        self.summary = self._object_of(file.readline(LINE_LIMIT))
         if self.summary.get("format") != self.format:
             raise Refused(self.number, f"the first line is the summary, of format {self.format}")
 
@@ -133,14 +158,15 @@ class Reader:
         """The changes as far as the beginnings of most lines say them: their values are not looked
         at."""
         last = b""
-        while True:
-            line = self._line()
+        read = partial(self.file.readline, LINE_LIMIT)
+        for self.number, line in enumerate(iter(read, b""), self.number + 1):
             match = self.outline.match(line)
             if match is not None and line.endswith(b"}\n"):
-                kind = KINDS_BY_BYTES[match.group(1)]
-                path = match.group(2)
-                account = PROOFS.get(match.group(3))
-                left_out = int(match.group(4) or 0)
+                name, path, proof, number = match.groups()
+                kind = KINDS_BY_BYTES[name]
+                key = path.replace(b"/", SLASH)
+                account = PROOFS.get(proof)
+                left_out = int(number or 0)
                 if left_out:
                     account = Standing.LEFT_OUT
             else:
@@ -155,11 +181,15 @@ class Reader:
                     raise Refused(self.number, "this is no change") from None
                 kind = change.kind
                 path = change.path
+                key = key_of_path(path)
                 left_out = left_out_by(fields)
-            last = self._key_after(last, path)
+            if key <= last:
+                raise Refused(self.number, "the entry is not in the order of paths")
+            last = key
             self._counted[kind] += 1
             self._counted[account] += 1
-            yield Outline(kind, path, silent_by(account, path), last, line, left_out)
+            yield Outline(kind, path, account and silent_by(account, path), key, line, left_out)
+        raise Refused(self.number, "this ends too early: the last line is missing")
 
     def _read_end(self, fields: Fields) -> None:
         """Takes the last line, of which all counts are those of the lines before it."""
@@ -175,13 +205,6 @@ class Reader:
         self.counts = counts
         self.end = fields
 
-    def _line(self, missing: str = NO_END) -> bytes:
-        line = self.file.readline(LINE_LIMIT)
-        if not line:
-            raise Refused(self.number, missing)
-        self.number += 1
-        return line
-
     def _object_of(self, line: bytes) -> Fields:
         fields: Any = None
         with suppress(ValueError, RecursionError):
@@ -189,13 +212,6 @@ class Reader:
         if not line.endswith(b"\n") or not isinstance(fields, dict):
             raise Refused(self.number, "this is no line of changes")
         return fields
-
-    def _key_after(self, last: bytes, path: bytes) -> bytes:
-        """The key of a path, which has to come after that of the last one."""
-        key = key_of_path(path)
-        if key <= last:
-            raise Refused(self.number, "the entry is not in the order of paths")
-        return key
 
 
 def reader_over(descriptor: int) -> Reader:

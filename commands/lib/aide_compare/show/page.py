@@ -8,16 +8,15 @@ import hashlib
 import json
 import os
 from collections.abc import Callable, Iterable, Iterator
-from functools import lru_cache
 from html import escape
+from itertools import chain
 from typing import TYPE_CHECKING
 
 from aide_compare.base.escapes import guarded, shown
 from aide_compare.base.files import private_file
 from aide_compare.base.words import KINDS, SEVERITIES, SIDES, minute_of
 from aide_compare.lines.attributes import CONTENT, FORMS, STRENGTH, word_of
-from aide_compare.changes.table import BY_STANDING, Marks
-from aide_compare.changes.weighing import DECODE
+from aide_compare.changes.table import BY_PACKAGE, LISTED, RECORDED, Marks
 from aide_compare.lines.change import (
     Change,
     Counts,
@@ -30,7 +29,7 @@ from aide_compare.lines.change import (
     change_of,
 )
 from aide_compare.lines.readable import texts_of
-from aide_compare.lines.reader import HEX, Reader, embedded
+from aide_compare.lines.reader import AFTER_PATH, HEX, ByForm, Reader, embedded
 from aide_compare.lines.rights import differing
 from aide_compare.show.json_lines import marked_lines
 from aide_compare.show.brief import brief_of
@@ -40,6 +39,7 @@ if TYPE_CHECKING:
     from aide_compare.compare.comparison import Comparison
 
 HERE = os.path.dirname(os.path.abspath(__file__))
+DECODE = json.JSONDecoder().raw_decode
 POLICY = (
     "default-src 'none'; base-uri 'none'; form-action 'none'; style-src 'sha256-{style}';"
     " script-src 'sha256-{script}'"
@@ -131,18 +131,16 @@ def values_of(values: Values, texts: Texts) -> Fields:
     return fields
 
 
-@lru_cache(maxsize=1024)
-def labels_of(letters: str, old: tuple[str, ...], new: tuple[str, ...]) -> str:
+def labels_of(*sides: Iterable[str]) -> str:
     """The attributes that people read of a change, by the members that its sides have."""
-    sides = {"old": dict.fromkeys(old), "new": dict.fromkeys(new)}
-    fields = differing({"kind": "changed", "summary": letters, **sides})
-    names = {name.removesuffix(HEX) for side in SIDES for name in fields[side]}
+    names = {name.removesuffix(HEX) for side in sides for name in side}
     return " ".join(label for label in FORMS if label in names)
 
 
-def head_of(kind: str, path: bytes, labels: str) -> Fields:
-    """What is always there of a change: its place, and the names of its values."""
-    return {"kind": kind, "path": shown(path), "labels": labels}
+def labels_in(fields: Fields) -> bytes:
+    """The same by the object of its line, as a part of JSON."""
+    fields = differing({**fields, "kind": "changed"})
+    return embedded(labels_of(*(fields.get(side, ()) for side in SIDES)))
 
 
 def both_values(change: Change) -> Fields:
@@ -153,8 +151,8 @@ def both_values(change: Change) -> Fields:
 
 def row_of(change: Change, marks: Fields) -> list[Fields]:
     """The row of a change: what is always there with some marks, and its values."""
-    labels = labels_of("", tuple(change.old), tuple(change.new))
-    head = {**head_of(change.kind, change.path, labels), **marks}
+    labels = labels_of(change.old, change.new)
+    head = {"kind": change.kind, "path": shown(change.path), "labels": labels, **marks}
     return [head, both_values(change)]
 
 
@@ -164,17 +162,17 @@ class Rows:
 
     def __init__(self) -> None:
         self.file = private_file()  # Of each change a line with its head, and then its own line.
+        self.labels = ByForm(labels_in)
         self.size = 0  # Of all heads.
         self.count = 0
         self.listed = 0
         self.valued = 0
 
     def add(self, line: bytes, marks: Marks) -> None:
-        fields = DECODE(line.decode())[0]
-        members = (tuple(fields.get(side, ())) for side in SIDES)
-        labels = labels_of(fields["summary"], *members)
-        head = head_of(fields["kind"], bytes_of(fields, "path"), labels)
-        row = embedded(head)[: -len(b"}")] + marks.members()
+        place = DECODE(line.partition(AFTER_PATH)[0].decode() + "}")[0]
+        path = shown(bytes_of(place, "path"))
+        row = b'{"kind":%b,"path":%b' % (embedded(place["kind"]), embedded(path))
+        row += b',"labels":%b' % self.labels.of(line) + marks.members()
         self.file.write(row + b"\n" + line)
         self.size += len(row) + BESIDE
         self.count += 1
@@ -215,7 +213,8 @@ class Rows:
 def lines_in_order(judged: Judged | None, reader: Reader) -> Iterator[tuple[bytes, Marks]]:
     """The lines of all changes with their marks, those that are read first before the others."""
     if judged is not None:
-        for row in judged.table.rows(order=BY_STANDING):
+        table = judged.table
+        for row in chain(table.rows(LISTED), table.rows(RECORDED, order=BY_PACKAGE)):
             yield judged.line(row), row.marks
     if judged is None or judged.counts.silent:
         for line, marks in marked_lines(reader, None):
