@@ -8,6 +8,7 @@ import shutil
 import socket
 import subprocess
 import termios
+from collections.abc import Container
 
 from tests.lib.answer import Answer
 from tests.lib.waiting import until
@@ -58,15 +59,15 @@ def add(
     return Answer(text, b"", status)
 
 
-def files(sandbox: CommandTest) -> dict[str, str]:
-    """What is kept: the file of hosts, and the baselines."""
+def files(sandbox: CommandTest, names: Container[str] = ("aide.db",)) -> dict[str, str]:
+    """What is kept: the file of hosts, and the baselines, or other databases of these names."""
     found = {}
     if os.path.exists(sandbox.path("etc-hosts")):
         found["etc-hosts"] = sandbox.read("etc-hosts").decode()
     hosts = sandbox.path("store/hosts")
     for host in os.listdir(hosts) if os.path.isdir(hosts) else []:
         for name in os.listdir(f"{hosts}/{host}"):
-            if name == "aide.db":
+            if name in names:
                 found[f"{host}/{name}"] = sandbox.read(f"store/hosts/{host}/{name}").decode()
     return found
 
@@ -192,6 +193,7 @@ class HostsAddTest(CommandTest):
         said = self.fleet.call(command, "--sha256", sha256(NEW), "www")
         self.assertEqual((said.status, files(self)), (24, {}), said)
         self.assertIn(f"sent another database, with the SHA-256 {sha256(OLD)}", said.error_text)
+        self.assertEqual(files(self, ["aide.db.new"]), {}, "nothing is left of a refused database")
         for words in (("--sha256", sha256(OLD), "www", "db1"), ("--yes", "www")):
             said = self.fleet.call(command, *words)
             self.assertEqual((said.status, files(self)), (15, {}), (words, said))
@@ -219,6 +221,7 @@ class HostsAddTest(CommandTest):
         self.refuses(18, "is the key of this user in its authorized_keys?", "denied")
         self.refuses(18, "sent nothing", "empty")
         self.refuses(24, "no sound database", "other")
+        self.assertEqual(files(self, ["aide.db.new"]), {})
         for name in ("-x", "x\ny", "$(x)", "a#b"):
             self.refuses(15, "", name, "--")
 

@@ -56,6 +56,17 @@ def ask(host: str, sha256: str) -> None:
         raise Fault(Status.DATABASE, "the answer was not yes: nothing was added")
 
 
+def check(request: AddRequest, directory: HostDirectory) -> None:
+    """Refuses what was fetched if it is not the right database."""
+    copy = copy_database("new", directory.file(NEW_FILE), MAX_BASELINE)
+    refuse_unsound(copy)
+    if not request.digest:
+        ask(directory.host, copy.sha256)
+    elif not copy.sha256.startswith(request.digest):
+        text = f"sent another database, with the SHA-256 {copy.sha256}: nothing was added"
+        raise directory.fault(text, Status.DATABASE)
+
+
 def add(request: AddRequest, host: str) -> int:
     """Fetches from a host, and keeps it if it is the right database. A baseline that is there
     already is never replaced."""
@@ -65,13 +76,11 @@ def add(request: AddRequest, host: str) -> int:
     if not request.digest:
         ask_for_key(directory)
     fetch(directory, 1)
-    copy = copy_database("new", directory.file(NEW_FILE), MAX_BASELINE)
-    refuse_unsound(copy)
-    if not request.digest:
-        ask(directory.host, copy.sha256)
-    elif not copy.sha256.startswith(request.digest):
-        text = f"sent another database, with the SHA-256 {copy.sha256}: nothing was added"
-        raise directory.fault(text, Status.DATABASE)
+    try:
+        check(request, directory)
+    except BaseException:
+        directory.remove(NEW_FILE)
+        raise
     add_host(directory.host, request.hosts_file)
     try:
         directory.copy(NEW_FILE, BASELINE)
