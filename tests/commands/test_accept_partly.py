@@ -54,7 +54,8 @@ class AcceptPartlyTest(AcceptingTest):
     def test_open(self) -> None:
         """An added, a removed and a changed path stay open; all else is accepted. Once more,
         nothing changes."""
-        counts = b"it has the former entries of what stays open: added 1, removed 1, changed 1\n"
+        entries = b"it contains the new entries, but for what stays open the former ones: "
+        counts = entries + b"added 1, removed 1, changed 1\n"
         told = [b"now, but for what stays open: ", sha256(KEPT).encode(), counts]
         for owner in OWNERS:
             fresh(self, owner)

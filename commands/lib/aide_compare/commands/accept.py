@@ -206,8 +206,10 @@ def lines_of(request: AcceptRequest, accepted: Accepted) -> Iterator[str]:
     yield f"new: SHA-256 {accepted.new.sha256}, {request.came} {date}"
     if accepted.merged:
         kinds = ", ".join(f"{kind} {accepted.merged.counts[kind]}" for kind in KINDS)
-        former_entries = f"it has the former entries of what stays open: {kinds}"
-        yield f"baseline: SHA-256 {accepted.sha256}; {former_entries}"
+        yield (
+            f"baseline: SHA-256 {accepted.sha256}; it contains the new entries, but for what stays"
+            f" open the former ones: {kinds}"
+        )
     former = accepted.former
     if former is None:
         yield "former: none, this is the first baseline"
