@@ -58,6 +58,21 @@ class HostsBriefTest(CommandTest):
             self.assertEqual(int(missing.group(1)), int(missing.group(3)) + 11)
         self.assertIn(": -rwsr-xr-x", text, "a mode")
 
+    def test_end(self) -> None:
+        """No text ends with an empty line, whatever its last part is."""
+        hosts = Hosts(self)
+        self.stub("sendmail", f'cat > "{self.root}/mail"')
+        for names in (["never"], ["never", "www"], ["same"]):
+            hosts.compared({"www": (OLD, database(SHADOW)), "same": (OLD, OLD)})
+            hosts.list_hosts(*names)
+            hosts.report("--to", "root")
+            texts = [hosts.report(f"--format={form}").output_text for form in ("brief", "text")]
+            if "never" in names:
+                texts.append(self.read("mail").decode())
+            for text in texts:
+                self.assertRegex(text, r"[^\n]\n\Z", names)
+                self.assertNotIn("\n\n\n", text, names)
+
 
 class HostsPageTest(CommandTest):
     def only(self, rows: list[Any], path: str, note: str) -> Any:

@@ -91,11 +91,11 @@ def host_lists(hosts: Iterable[Host]) -> dict[str, list[str]]:
 def shared_lines(shared: SharedChange, hosts: int) -> Iterator[str]:
     """The lines of a change in the whole text: which hosts have it, and its values. An old value
     that is not the same on all of them is not shown."""
+    yield ""
     yield f"{shared.severity} on {shared.hosts} of {hosts} hosts: {shared.names_text()}"
     yield from (line[:-1] for line in change_lines(shared.change, shared.various))
     if shared.per_host:
         yield "    of each host: " + ", ".join(map(word_of, shared.per_host))
-    yield ""
 
 
 def report_lines(report: Report) -> Iterator[str]:
@@ -103,12 +103,11 @@ def report_lines(report: Report) -> Iterator[str]:
     summary = report.summary
     yield from canary_lines(summary)
     yield f"{headline(summary)}, {summary.counts.others()}"
-    yield ""
     for title, lines in host_lists(report.hosts).items():
         yield from list_lines(title, lines)
     if summary.changes:
-        yield f"{counted(summary.changes, 'different change')}, {ORDER}:"
         yield ""
+        yield f"{counted(summary.changes, 'different change')}, {ORDER}:"
     for row in report.table.rows():
         yield from shared_lines(report.shared(row), summary.counts.hosts)
 
@@ -150,10 +149,11 @@ def grouped_lines(report: Report, rows: Iterable[Row]) -> Iterator[str]:
 
 
 def list_lines(title: str, lines: Sequence[str], rows: int = 0) -> Iterator[str]:
-    """A list of hosts, with its title and how many there are; of a short text so many rows at
-    most."""
+    """A list of hosts after an empty line, with its title and how many there are; of a short text
+    so many rows at most."""
     if not lines:
         return
+    yield ""
     yield f"{title} ({len(lines)}):"
     first = lines
     if 0 < rows < len(lines):
@@ -162,7 +162,6 @@ def list_lines(title: str, lines: Sequence[str], rows: int = 0) -> Iterator[str]
         yield "  " + (shortened(line, MAX_COLUMNS - 2) if rows else line)
     if len(lines) > len(first):
         yield f"  and {len(lines) - len(first)} more"
-    yield ""
 
 
 def room_of(report: Report, height: int) -> Room:
@@ -193,13 +192,14 @@ def short_lines(report: Report) -> Iterator[str]:
     summary = report.summary
     lists = host_lists(report.hosts)
     head = [shorten(line, MAX_COLUMNS, placeholder="...") for line in canary_lines(summary)]
-    head += [headline(summary), summary.counts.others(), ""]
+    head += [headline(summary), summary.counts.others()]
     head += list_lines("Not compared", lists["Not compared"], MAX_MISSING)
     head += list_lines("Not all listed", lists["Not all changes are listed"], MAX_CUT)
     yield from head
-    # An empty line, and the command at the end.
-    yield from short_changes(report, MAX_ROWS - len(head) - 6)
     if summary.changes:
+        yield ""
+        # Two empty lines, and the command at the end.
+        yield from short_changes(report, MAX_ROWS - len(head) - 7)
         yield ""
         yield "All changes with their values:"
         yield from command_lines(report.command)
