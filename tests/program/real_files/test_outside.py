@@ -1,4 +1,4 @@
-"""Limits from outside: memory, descriptors, sizes of files, pipes, devices, files of 2 GB."""
+"""Limits from outside: memory, sizes of files, pipes, files of 2 GB."""
 from __future__ import annotations
 
 import os
@@ -15,12 +15,6 @@ MEGABYTE, GIGABYTE = 2**20, 2**30
 MINIMAL = b"report_level=minimal\n"
 NOT_WRITTEN = b"aide: cannot write the report\n"
 TOO_LARGE = b"aide: the configuration is longer than 4194304 bytes\n"
-DEVICES = [
-    ("old", "/dev/zero", b"line too long"),
-    ("new", "/dev/zero", b"line too long"),
-    ("old", "/dev/full", b"line too long"),
-    ("old", "/dev/null", b"no @@begin_db"),
-]
 # A line may have a megabyte. The program and the FIFO have room for some of the bytes after it.
 MOST_TAKEN = 2 * MEGABYTE
 
@@ -66,23 +60,6 @@ class OutsideTest(ProgramTest):
             want = folder.wanted()
             check_file_sizes(self, "a report", self.program, folder.words(), want, 31)
 
-    def test_devices(self) -> None:
-        """Devices as files: the null device is empty, the others never end a line or give
-        anything."""
-        with Folder() as folder:
-            for name, device, words in DEVICES:
-                folder.pair()
-                os.unlink(folder.at(name))
-                os.symlink(device, folder.at(name))
-                line = b"aide: %s database:1: %s\n" % (name.encode(), words)
-                self.check(
-                    "a device as a database", folder.run(self.program), Answer(b"", line, 24)
-                )
-                os.unlink(folder.at(name))
-            folder.pair()
-            answer = run(self.program, [b"-E", b"-c", b"/dev/zero"])
-            self.check("a device as a configuration", answer, Answer(b"", TOO_LARGE, 17))
-
     def test_long_lines(self) -> None:
         """Sparse files of 2 GB that have one line, and FIFOs with a line of 32 MB: no more is read
         than shows that it is too long."""
@@ -113,6 +90,8 @@ class OutsideTest(ProgramTest):
                 sparse(folder, name, front, 128 * MEGABYTE)
                 few = limited(resource.RLIMIT_AS, 64 * MEGABYTE)
                 self.check(name, folder.run(self.program, preexec_fn=few), want)
+            answer = run(self.program, [b"-E", b"-c", b"/dev/zero"])
+            self.check("a device as a configuration", answer, Answer(b"", TOO_LARGE, 17))
 
     def test_surroundings(self) -> None:
         """No environment, no standard input, a working folder that is gone."""
