@@ -21,10 +21,10 @@ Make = Callable[[int, int, bytes], List[bytes]]
 Check = Callable[[List[bytes]], Tuple[int, List[str]]]
 
 
-# The names of folders: most are plain, and others have blanks, a newline, bytes above 127 or a great
-# length.
+# The names of folders: most are plain, and others have blanks, a newline, bytes above 127, what JSON
+# escapes or a great length.
 FOLDERS = 8 * [b"plain"] + [b" ends ", "\xe9 \u20ac \U0001f332".encode(), b"-E", b"#x = y", b"a\nb"]
-FOLDERS += [b"a\xffb", b"/".join([b"d" * 249] * 6)]
+FOLDERS += [b"a\xffb", b'"\\\t\x7f', "\u202e\u2066".encode(), b"/".join([b"d" * 249] * 6)]
 
 
 def write(path: bytes, text: bytes) -> None:

@@ -7,8 +7,6 @@ same status.
 """
 from __future__ import annotations
 
-import os
-
 from tests.lib.answer import shown
 from tests.lib.program_test import SESSIONS, new_seed, slow
 from tests.oracle.attributes import ATTRIBUTES
@@ -16,7 +14,7 @@ from tests.oracle.files import wanted_lines
 from tests.program.lines_program import LinesProgramTest
 from tests.program.random_sessions import try_sessions
 from tests.program.real_files.test_devices import check_outputs
-from tests.program.real_files.folder import EMPTY, NEW, OLD, SKIPPING, Folder
+from tests.program.real_files.folder import EMPTY, NEW, OLD, Folder
 from tests.program.real_files.test_outside import check_file_sizes
 
 # Of names with each byte: alone, behind a letter, and behind the first byte of a character of two,
@@ -49,27 +47,6 @@ class LinesTest(LinesProgramTest):
         for each in ATTRIBUTES:
             for kind in (b"added", b"removed", b"changed"):
                 self.checked(b"report_ignore_%s_attrs=%s" % (kind, each.name.encode()))
-
-    def test_paths(self) -> None:
-        """Paths of the databases that are text, need an escape or are no text."""
-        with Folder() as folder:
-            for name in (
-                b"plain",
-                b"a b",
-                "h\xf6h".encode(),
-                b"\xff\x80",
-                b'"\\',
-                b"\t\x7f",
-                "\u202e\u2066".encode(),
-            ):
-                folder.write(
-                    "conf",
-                    b"database_in=file:%s/%s\ndatabase_new=file:%s/%s\n"
-                    % ((folder.path, name) * 2),
-                )
-                with open(os.path.join(folder.path, name), "wb") as file:
-                    file.write(SKIPPING)
-                self.ends("a database named %r" % name, folder.words(), 0, 17)
 
     def test_names(self) -> None:
         """Names of entries in odd spellings and with each byte, and links to each."""
