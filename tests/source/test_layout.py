@@ -1,7 +1,7 @@
 """What `rt fmt` leaves as it is in each crate: cycles of modules, and long lines.
 
-A line of specs/ has at most 100 characters, a line of comment at most 120, and a line of proofs/ at
-most 140.
+A line of specs/ has at most 100 characters, a line of comment at most 120, and an import or a line of
+proofs/ at most 140.
 """
 from __future__ import annotations
 
@@ -112,7 +112,7 @@ def uses_in(crate: pathlib.Path) -> Graph:
 
 def most_columns(part: str, line: str) -> int:
     """How many characters a line may have."""
-    if part == "proofs":
+    if part == "proofs" or line.startswith("use "):
         return MOST_PROOF_COLUMNS
     return MOST_COMMENT_COLUMNS if line.lstrip().startswith(("//", "--")) else MOST_COLUMNS
 
