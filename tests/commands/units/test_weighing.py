@@ -8,8 +8,9 @@ from tests.commands.units.streams import line_of
 
 from aide_compare.base.paths import key_of_path
 from aide_compare.changes.weighing import Scales, Weighed, is_content
+from aide_compare.lines.attributes import FORMS
 from aide_compare.lines.change import change_of
-from aide_compare.lines.reader import MAX_LINE, Outline
+from aide_compare.lines.reader import MAX_LINE, ByForm, Outline
 from aide_compare.lines.rights import differing, rights_of
 
 SAME = "f...........H....."
@@ -72,6 +73,16 @@ class WeighingTest(ModuleTest):
         before = weighed(scales, fields_of(old=plain, new=plain))
         listed = weighed(scales, fields_of(old=plain, new={**plain, "ACL_hex": "ff"}))
         self.assertLess(listed.rank, before.rank)
+
+    def test_forms(self) -> None:
+        """Lines with other numbers or digests have one form, and none with another right."""
+        pairs = {"number": (1, 2), "time": (1, 2), "digest": ("00", "11")}
+        for label, form in FORMS.items():
+            forms = ByForm(len)
+            for value in pairs.get(form, ("aa", "bb")):
+                forms.of(line_of(fields_of(new={label: value})))
+            is_one = form in pairs and label not in ("UID", "GID")
+            self.expect(label, len(forms.known), 1 if is_one else 2)
 
     def test_types(self) -> None:
         """Two types that have one word are no same one, whatever lines with this word came before."""
