@@ -107,7 +107,6 @@ class MachineTest(ScratchTest):
         """dpkg's records of a machine with one package, openssl, and the MD5 sums of its files."""
         status = "Package: openssl\nStatus: install ok installed\nArchitecture: amd64\nVersion: "
         self.write("/var/lib/dpkg/status", f"{status}{version}\n\n")
-        self.write("/var/lib/dpkg/diversions", "")
         names = "".join(path + "\n" for path in digests)
         self.write("/var/lib/dpkg/info/openssl.list", "/.\n" + names)
         sums = "".join(f"{digest}  {path[1:]}\n" for path, digest in digests.items())

@@ -14,10 +14,9 @@ from tests.pages.blocks import blocks_of
 from tests.source import public_specs
 from tools.source import headline_page
 from tools.source.checker import below, libraries
-from tools.source.definitions import crates
+from tools.source.definitions import Definitions, crates
 
 MOST_LINES = {"README.md": 120, "docs/HEADLINE_LINES.md": 600}
-DIAGRAMS = ("flowchart ", "sequenceDiagram\n")
 ENDINGS = r"(?:rt|antt|py|md|sh|c|txt|conf|edit|[15])"
 NAMED = re.compile(r"`((?:[\w.-]+/)*[\w.-]+\.%s)`" % ENDINGS)
 BELOW = re.compile(
@@ -65,15 +64,11 @@ def specs_of(crate: str) -> set[str]:
 
 def records() -> dict[str, list[str]]:
     """The names of the fields of each record of the crates' specs/."""
-    form = re.compile(r"^pub record (\w+)\b[^=]*?\bwhere\n((?:  [^\n]*\n|\n(?=  ))*)", re.M)
-    found = {}
-    for path in glob.glob(
-        os.path.join(TOP, "crates", "*", "specs", "**", "*.antt"), recursive=True
-    ):
-        text = re.sub(r"^ *--.*\n", "", read(path), flags=re.M)
-        for name, fields in form.findall(text):
-            found[name] = re.findall(r"^  pub (\w+)", fields, re.M)
-    return found
+    return {
+        name: re.findall(r"^  pub (\w+)", definition.text(), re.M)
+        for file in Definitions(crates()).files.values()
+        for name, definition in file.definitions.items()
+    }
 
 
 def promised_by(call: str, source: str) -> set[str]:
@@ -117,7 +112,7 @@ class Docs(unittest.TestCase):
     def test_each_block_has_a_mark_that_says_how_it_is_tried(self) -> None:
         for page in self.pages.keys() - headline_page.pages().keys():
             for block in blocks_of(page):
-                is_right = block.marks or block.text.startswith(DIAGRAMS)
+                is_right = block.marks or block.text.startswith(("flowchart ", "sequenceDiagram\n"))
                 self.assertTrue(is_right, f"{page}:{block.line}")
 
     def test_pages_of_the_headline_have_the_definitions_of_now(self) -> None:

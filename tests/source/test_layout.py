@@ -10,56 +10,28 @@ import pathlib
 import re
 import unittest
 from collections.abc import Iterator
-from typing import Dict, Set, Tuple
 
 from tests.lib.scratch import TOP
 from tools.source.definitions import crates
 
 # The path of a module within its crate, none for the root, and which modules each one uses.
-Module = Tuple[str, ...]
-Graph = Dict[Module, Set[Module]]
+Module = tuple[str, ...]
+Graph = dict[Module, set[Module]]
 CRATES = pathlib.Path(TOP, "crates")
 MOST_COLUMNS = 100
 MOST_COMMENT_COLUMNS = 120
 MOST_PROOF_COLUMNS = 140
 
-SKIPPED = re.compile(r"""//[^\n]*|/\*.*?\*/|b?"(?:\\.|[^"\\])*"|b?'(?:\\.[^']*|[^'\\\n])'""", re.S)
-
-
-def blanked(text: str) -> str:
-    """The text with comments and literals replaced by blanks, so that their brackets do not
-    count."""
-    return SKIPPED.sub(lambda found: re.sub(r"[^\n]", " ", found.group()), text)
+USE = re.compile(r"^\s*(?:pub(?:\([^)]*\))?\s+)?use\s+([^;{]*)(?:\{([^{}]*)\})?;", re.M)
 
 
 def split_uses(text: str) -> Iterator[list[str]]:
     """Each path that a `use` line of code names, as a list of words. A ghost import names no
     code."""
-    for found in re.finditer(
-        r"^\s*(ghost\s+)?(?:pub(?:\([^)]*\))?\s+)?use\s+([^;]*);", blanked(text), re.M
-    ):
-        if found.group(1):
-            continue
-        yield from expand(found.group(2).strip())
-
-
-def expand(path: str) -> Iterator[list[str]]:
-    """The paths of `a::{b, c::d}`, one after another."""
-    opened = path.find("{")
-    if opened < 0:
-        yield [word.strip() for word in path.split(" as ")[0].split("::")]
-        return
-    head = [word.strip() for word in path[:opened].split("::") if word.strip()]
-    depth, part = 0, ""
-    for letter in path[opened + 1 : path.rindex("}")] + ",":
-        depth += (letter == "{") - (letter == "}")
-        if letter == "," and depth == 0:
-            if part.strip():
-                for rest in expand(part.strip()):
-                    yield head + rest
-            part = ""
-        else:
-            part += letter
+    for head, names in USE.findall(text):
+        for name in [each for each in names.split(",") if each.strip()] or [""]:
+            path = (head + name).split(" as ")[0]
+            yield [word.strip() for word in path.split("::")]
 
 
 def module_of(source: pathlib.Path, file: pathlib.Path) -> Module:
@@ -97,10 +69,8 @@ def imports_of(modules: dict[Module, str]) -> Graph:
 
 def longest(modules: dict[Module, str], path: Module) -> Module:
     """The longest beginning of a path that is a module."""
-    for length in range(len(path), 0, -1):
-        if path[:length] in modules:
-            return path[:length]
-    return ()
+    beginnings = (path[:length] for length in range(len(path), 0, -1))
+    return next((each for each in beginnings if each in modules), ())
 
 
 def uses_in(crate: pathlib.Path) -> Graph:
