@@ -97,7 +97,7 @@ class HostsPageTest(CommandTest):
         data = data_in(page)
         heading = data["heading"]
         self.assertEqual(heading["title"], title)
-        self.assertTrue(heading["outcome"].startswith("5 different changes, those on the fewest"))
+        self.assertTrue(heading["outcome"].startswith("5 different changes, the most severe first"))
         counts = [["hosts", 6], ["differ", 4], ["not compared", 1]]
         self.assertEqual(heading["counts"], counts)
         self.assertIn(["Not compared: 1", ["never: was never compared"]], heading["lists"])

@@ -33,7 +33,7 @@ WHY = {
     CUT: "its changes were cut",
     UNREADABLE: "its changes cannot be read, or are too many",
 }
-ORDER = "those on the fewest hosts first"
+ORDER = "the most severe first"
 
 
 class Report(NamedTuple):
