@@ -174,20 +174,20 @@ class WithoutTest(CommandTest):
         self.assertNotIn(b"left out", answer.errors)
 
     def test_status(self) -> None:
-        """The status is that of what is not silent; a report has AIDE's, and says that it knows no
-        list."""
+        """The status is that of what is not silent; a report has AIDE's, and says that it does not
+        use the list."""
         every = ["--exclude", "/**", "o.db", "n.db"]
         self.answered(0, b"4 changes, all silent\n", None, "aide-compare", *every)
         for tool in ("aide-compare --report", "aide-compare --report --state state"):
             answer = self.call(tool, *every)
             counts = [b"Added entries:           1", b"Changed entries:         2"]
-            self.expect(tool, answer, 7, counts, b"the report knows no list")
+            self.expect(tool, answer, 7, counts, b"the report does not use the list")
         gauges = [b"\naide_compare_status 0\n", b"\naide_compare_left_out_changes 4\n"]
         metrics = "aide-compare status --format prometheus --state state"
         self.expect("metrics", self.call(metrics), 0, gauges, b"")
         self.assertEqual(self.call("aide-compare --report -q", *every).status, 7)
         answer = self.call("aide-compare --report", "o.db", "n.db")
-        self.assertNotIn(b"knows no list", answer.errors)
+        self.assertNotIn(b"use the list", answer.errors)
 
     def test_trusted_first(self) -> None:
         """A line of the list is asked only of what no trusted pair accounts for."""

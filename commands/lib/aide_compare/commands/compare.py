@@ -304,7 +304,7 @@ class ComparisonJob:
             self._put(comparison)
 
 
-NO_LIST = "the report knows no list: it has what is left out elsewhere, and AIDE's status"
+NO_LIST = "the report does not use the list: it contains what is left out, and AIDE's status counts"
 # What standard output gets, unless -q says otherwise: what people read first, the changes of some
 # paths, the report of AIDE, or nothing.
 BRIEF = "brief"

@@ -205,7 +205,7 @@ class Rows:
             remarks.append(f"{self.listed:,} of {self.count:,} changes are here. {all_counted}")
         if self.valued < self.listed:
             remarks.append(
-                f"The first {self.valued:,} of them have their values, for want of room."
+                f"Only the first {self.valued:,} of them have values: there is no room for more."
             )
         return remarks
 
