@@ -55,7 +55,7 @@ class FrontTest(CommandTest):
             self.answered(0, text, b"", TOOL, *words)
         for word in EVERY:
             is_short = word in ("compare", "json", "page")
-            usage = b"[compare] " if is_short else word.encode() + b" "
+            usage = b"[compare | json | page] " if is_short else word.encode() + b" "
             parts = [b"usage: aide-compare " + usage, *COMMON]
             given = self.answered(0, parts, b"", TOOL, *word.split(), "--help")
             self.assertIn(b" [OPTIONS]", given.output.splitlines()[0])

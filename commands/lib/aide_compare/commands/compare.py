@@ -58,9 +58,10 @@ if TYPE_CHECKING:
 
 NAME = "aide-compare compare"
 DESCRIPTION = """Compares two AIDE databases, plain or compressed by gzip, and prints what differs,
-the most severe first; with --report the report as AIDE does."""
+the most severe first; show prints the change of one path, json lines of JSON, page a page, and
+--report the report as AIDE does."""
 TRY = "try: aide-compare compare --help"
-USAGE = "aide-compare [compare] [OPTIONS] [OLD NEW]"
+USAGE = "aide-compare [compare | json | page] [OPTIONS] [OLD NEW]"
 EPILOG = """\
 Times are as in 90s, 15m, 26h or 3d; a plain number is seconds. Sizes are in bytes, or as in
 500k, 20M or 1G. Root becomes the user in whose directories the baseline and the outputs are, unless
