@@ -73,8 +73,12 @@ def option(name: str, help: str, metavar: str = "", **more: Any) -> Any:
     return Option(name, help, metavar, **more)
 
 
-QUIET = Option("--quiet", "print only why it failed", letter="-q")
-VERBOSE = Option("--verbose", "print also what each line of a list leaves out", letter="-v")
+QUIET = Option("--quiet", "print less, if there is less to print", letter="-q")
+VERBOSE = Option(
+    "--verbose",
+    "of a comparison: print also how many changes each line of a list leaves out",
+    letter="-v",
+)
 Asks = TypeVar("Asks", bound="Asked")
 
 
