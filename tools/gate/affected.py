@@ -51,8 +51,7 @@ class Module:
 
     def names(self, path: str) -> bool:
         """Whether a text of the module names a file, or the directory that it is in."""
-        directory, base = os.path.split(path)
-        ends = (base, os.path.basename(directory))
+        ends = tuple(path.split("/")[-2:])
         return any(text.strip("/").endswith(ends) for text in self.texts)
 
 
