@@ -5,6 +5,7 @@ from __future__ import annotations
 import fcntl
 import os
 import shutil
+import signal
 import socket
 import subprocess
 import termios
@@ -184,6 +185,9 @@ class HostsAddTest(CommandTest):
             asked = add(self, "www", answer)
             self.assertEqual((asked.status, files(self)), (24, {}), asked)
             self.assertIn("nothing was added", asked.output_text)
+        asked = add(self, "www", "\x03")  # As ^C, which the terminal makes a signal of.
+        found = files(self, ("aide.db", "aide.db.new"))
+        self.assertEqual((asked.status, found), (-signal.SIGINT, {}), asked)
         asked = add(self, "www", "no\n", early=b"yes\n")
         self.assertEqual((asked.status, files(self)), (24, {}), "typed before the question")
         command = "aide-compare hosts add"

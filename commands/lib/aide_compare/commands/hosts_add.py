@@ -7,13 +7,14 @@ from collections.abc import Sequence
 from functools import partial
 
 from aide_compare.base.ending import Fault, Status, status_of, tell
+from aide_compare.base.files import reopened
 from aide_compare.base.options import HOST_STORE, HOST_TIME, HOSTS_FILE, SHA256, Asked, Operand
 from aide_compare.base.options import field, option
 from aide_compare.base.parser import read
 from aide_compare.base.processes import limit_memory
 from aide_compare.base.terminal import answer_to
 from aide_compare.compare.soundness import refuse_unsound
-from aide_compare.compare.unpack import copy_database
+from aide_compare.compare.unpack import Opened, copy_opened
 from aide_compare.hosts.fetching import DATABASE, ask_for_key, fetch
 from aide_compare.hosts.hosts_file import add_host
 from aide_compare.hosts.store import BASELINE, MAX_BASELINE, MAX_MEMORY, NEW_FILE, HostDirectory
@@ -56,9 +57,10 @@ def ask(host: str, sha256: str) -> None:
         raise Fault(Status.DATABASE, "the answer was not yes: nothing was added")
 
 
-def check(request: AddRequest, directory: HostDirectory) -> None:
-    """Refuses what was fetched if it is not the right database."""
-    copy = copy_database("new", directory.file(NEW_FILE), MAX_BASELINE)
+def refuse_wrong(request: AddRequest, directory: HostDirectory, descriptor: int) -> None:
+    """Refuses what a host has sent if it is not the right database."""
+    opened = Opened("new", directory.file(NEW_FILE), reopened(descriptor, os.O_RDONLY))
+    copy = copy_opened(opened, MAX_BASELINE)
     refuse_unsound(copy)
     if not request.digest:
         ask(directory.host, copy.sha256)
@@ -68,19 +70,14 @@ def check(request: AddRequest, directory: HostDirectory) -> None:
 
 
 def add(request: AddRequest, host: str) -> int:
-    """Fetches from a host, and keeps it if it is the right database. A baseline that is there
-    already is never replaced."""
+    """Fetches from a host, and keeps it if it is the right database: nothing is left of another
+    one, also if a signal ends the question. A baseline that is there already is never replaced."""
     directory = HostDirectory(request.store, host, request.seconds)
     if directory.has(BASELINE):
         raise directory.fault("has a baseline already; nothing was accepted", Status.DATABASE)
     if not request.digest:
         ask_for_key(directory)
-    fetch(directory, 1)
-    try:
-        check(request, directory)
-    except BaseException:
-        directory.remove(NEW_FILE)
-        raise
+    fetch(directory, 1, partial(refuse_wrong, request, directory))
     add_host(directory.host, request.hosts_file)
     try:
         directory.copy(NEW_FILE, BASELINE)

@@ -4,6 +4,7 @@ from __future__ import annotations
 import filecmp
 import os
 import re
+from collections.abc import Callable
 from contextlib import closing, suppress
 
 from aide_compare.base.ending import Fault, failing, write_all
@@ -76,8 +77,9 @@ def cause_of(errors: bytes, status: int) -> str:
     return f"{text} (ssh ended with {status}){hints}"
 
 
-def fetch(directory: HostDirectory, jobs: int) -> None:
-    """Fetches the database. If that fails, the state of the host says so, and the cause is kept.
+def fetch(directory: HostDirectory, jobs: int, check: Callable[[int], None] | None = None) -> None:
+    """Fetches the database. It has no name before `check`, which may refuse it. If anything fails,
+    the state of the host says so, and the cause is kept.
 
     The same bytes again leave the file's time as it is: it says since when the host has sent them.
     """
@@ -85,6 +87,8 @@ def fetch(directory: HostDirectory, jobs: int) -> None:
         with failing(f"{directory.host}: cannot keep what it sent"):
             with closing(NewFile(directory.fd)) as part:
                 transfer(directory, part, min(MAX_SENT, directory.room(jobs)))
+                if check:
+                    check(part.fd)
                 if not is_same(part, directory):
                     part.put(NEW_FILE)
                 directory.remove(CAUSE)
