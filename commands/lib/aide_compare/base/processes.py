@@ -14,7 +14,7 @@ from collections.abc import Callable, Mapping, Sequence
 from contextlib import ExitStack, suppress
 from functools import partial
 from types import MappingProxyType
-from typing import NoReturn, Union
+from typing import NoReturn
 
 from aide_compare.base.ending import Fault, Status
 from aide_compare.base.escapes import shown
@@ -27,8 +27,6 @@ PR_SET_PDEATHSIG = 1
 
 # What takes the bytes that come from a descriptor, as they come.
 Taker = Callable[[bytes], object]
-# A program and its arguments.
-Words = Sequence[Union[str, bytes]]
 NO_DESCRIPTORS: Mapping[int, int] = MappingProxyType({})
 
 
@@ -108,7 +106,7 @@ def start_child(work: Callable[[], int], lives_on: bool = False) -> int:
 
 
 def _become_program(
-    words: Words, descriptors: Mapping[int, int], environment: Mapping[str, str]
+    words: Sequence[str | bytes], descriptors: Mapping[int, int], environment: Mapping[str, str]
 ) -> NoReturn:
     """This process becomes a program. `descriptors` are its own by the numbers that they have
     there; other standard ones are /dev/null, and it has no more than these."""
@@ -130,7 +128,7 @@ def _become_program(
 
 
 def _become_bounded(
-    words: Words, descriptors: Mapping[int, int], environment: Mapping[str, str]
+    words: Sequence[str | bytes], descriptors: Mapping[int, int], environment: Mapping[str, str]
 ) -> NoReturn:
     """The same in a group of its own. It writes no larger file than MAX_FILE and leaves no core
     behind."""
@@ -141,7 +139,7 @@ def _become_bounded(
 
 
 def run(
-    words: Words,
+    words: Sequence[str | bytes],
     takers: Mapping[int, Taker],
     descriptors: Mapping[int, int] = NO_DESCRIPTORS,
     environment: Mapping[str, str] = os.environ,
@@ -167,7 +165,9 @@ def run(
     return status
 
 
-def _end_of(words: Words, child: int, readings: Mapping[int, Taker], deadline: float) -> int:
+def _end_of(
+    words: Sequence[str | bytes], child: int, readings: Mapping[int, Taker], deadline: float
+) -> int:
     """The exit code of the child that has become a program, when all that it writes was taken."""
     status = None
     try:
@@ -182,7 +182,10 @@ def _end_of(words: Words, child: int, readings: Mapping[int, Taker], deadline: f
 
 
 def run_here(
-    words: Words, seconds: int, environment: Mapping[str, str], is_silent: bool = False
+    words: Sequence[str | bytes],
+    seconds: int,
+    environment: Mapping[str, str],
+    is_silent: bool = False,
 ) -> int:
     """Runs a program of the system as a part of this command: on its terminal, and in its group, so
     that ^C ends both. Returns its exit code; it is killed, and that is an OverTime, if it takes
@@ -192,7 +195,9 @@ def run_here(
     return _end_of(words, child, {}, time.monotonic() + seconds)
 
 
-def run_on(words: Words, descriptors: Mapping[int, int], seconds: int) -> int | None:
+def run_on(
+    words: Sequence[str | bytes], descriptors: Mapping[int, int], seconds: int
+) -> int | None:
     """Runs a program that lives on if this process is ended. Returns its exit code; None if it had
     not ended by then, and was killed. `descriptors` are its standard ones."""
 

@@ -8,7 +8,7 @@ import time
 from collections.abc import Callable, Iterator, Sequence
 from contextlib import closing, suppress
 from functools import partial
-from typing import TYPE_CHECKING, Optional
+from typing import TYPE_CHECKING
 
 from aide_compare.base.ending import Fault, Status, say, why_of, write_all
 from aide_compare.base.escapes import guarded
@@ -111,13 +111,11 @@ def request_of(words: Sequence[str]) -> MailRequest:
 
 
 MAX_PAGE = 1 << 19  # Bytes of the page of a mail.
-# The columns that the last run has not compared; None if no state says it.
-ColumnsBefore = Optional[Sequence[str]]
 
 
 def message_of(
     request: MailRequest,
-    before: ColumnsBefore,
+    before: Sequence[str] | None,
     comparison: Comparison,
     judged: Judged | None,
 ) -> Iterator[bytes]:
@@ -238,8 +236,8 @@ def compared(request: MailRequest) -> tuple[State, bytes]:
         return comparison.state(), b"".join(message_of(request, before, comparison, None))
 
 
-def columns_before(request: MailRequest) -> ColumnsBefore:
-    """The columns that the last run has not compared, as its state says."""
+def columns_before(request: MailRequest) -> Sequence[str] | None:
+    """The columns that the last run has not compared; None if no state says it."""
     if request.fault or not request.state:
         return None
     with suppress(Fault):

@@ -3,7 +3,7 @@ its place, and what makes its bytes of a comparison and its judged changes."""
 from __future__ import annotations
 
 from collections.abc import Callable, Iterable
-from typing import TYPE_CHECKING, NamedTuple, Optional
+from typing import TYPE_CHECKING, NamedTuple
 
 from aide_compare.base.ending import Fault, Status
 from aide_compare.base.kinds import some_text
@@ -15,7 +15,7 @@ if TYPE_CHECKING:
     from aide_compare.compare.comparison import Comparison
 
     # The changes are None if nothing differs, or if nobody could judge them.
-    Maker = Callable[[Comparison, Optional[Judged]], Iterable[bytes]]
+    Maker = Callable[[Comparison, "Judged | None"], Iterable[bytes]]
 
 
 class OutputRow(NamedTuple):
