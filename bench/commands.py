@@ -17,7 +17,7 @@ import resource
 import subprocess
 import sys
 import tempfile
-from typing import NamedTuple, Optional
+from typing import NamedTuple
 
 from databases import PAIRS, write_pair
 
@@ -67,7 +67,7 @@ class Bench:
     def rows(self, entries: str, changed: str, runs: int, *commands: Command) -> None:
         """Runs commands in turn, again and again, and prints a row of the table for each."""
         taken = [[self.once(command) for command in commands] for _ in range(runs)]
-        first: Optional[float] = None
+        first: float | None = None
         for command, results in zip(commands, zip(*taken)):
             seconds = min(result[0] for result in results)
             memory = max(result[1] for result in results)

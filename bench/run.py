@@ -22,7 +22,7 @@ import subprocess
 import sys
 import tempfile
 from collections.abc import Iterator
-from typing import NamedTuple, Optional
+from typing import NamedTuple
 
 from databases import PAIRS, write_pair
 
@@ -193,7 +193,7 @@ def first_line(*command: str) -> str:
     return done.stdout.splitlines()[0]
 
 
-def processor() -> Optional[str]:
+def processor() -> str | None:
     with open("/proc/cpuinfo") as file:
         return next((line.split(": ")[1].strip() for line in file if "model name" in line), None)
 

@@ -5,7 +5,7 @@ from __future__ import annotations
 import gzip
 import os
 import shutil
-from typing import Any, Dict, Optional, Tuple
+from typing import Any, Optional
 
 from tests.lib import preload
 from tests.lib.answer import Answer
@@ -19,7 +19,7 @@ OLDER = OLD.replace(b"/d 36", b"/c1 36")
 DIGEST = sha256(NEW)
 # What the three files have when NEW was accepted.
 DONE = (NEW, OLD, NEW, 3)
-Contents = Tuple[Optional[bytes], Optional[bytes], Optional[bytes], int]
+Contents = tuple[Optional[bytes], Optional[bytes], Optional[bytes], int]
 
 
 def fresh(sandbox: CommandTest, owner: int | None = None) -> None:
@@ -88,6 +88,6 @@ def library(sandbox: CommandTest) -> dict[str, str] | None:
     return {"LD_PRELOAD": os.fsdecode(path)} if path else None
 
 
-def accept_at(sandbox: CommandTest, settings: Dict[str, str], **more: object) -> Answer:
+def accept_at(sandbox: CommandTest, settings: dict[str, str], **more: object) -> Answer:
     environment = {**settings, **{key: str(value) for key, value in more.items()}}
     return accept(sandbox, DIGEST, environment=environment)

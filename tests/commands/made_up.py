@@ -7,7 +7,7 @@ import hashlib
 import json
 import os
 import shutil
-from typing import Any, Callable, Dict, List, Tuple
+from typing import Any, Callable
 
 from tests.commands.sandbox import CommandTest
 from tests.lib.answer import Answer
@@ -41,7 +41,7 @@ def encoded(path: bytes) -> str:
     return "".join("%%%02X" % byte if byte in UNUSUAL else chr(byte) for byte in path)
 
 
-def fields_of(path: bytes, mode: int, content: bytes, link: bytes) -> Dict[str, Any]:
+def fields_of(path: bytes, mode: int, content: bytes, link: bytes) -> dict[str, Any]:
     """What AIDE says of a file of root's, by column."""
     bits = {8: FILE_BITS, 10: LINK_BITS}.get(mode >> 12, DIRECTORY_BITS)
     digests = {"md5": "0", "sha256": "0"}
@@ -74,8 +74,8 @@ class Night:
     """One night: what AIDE says of each path."""
 
     def __init__(self) -> None:
-        self.entries: Dict[bytes, Dict[str, Any]] = {}
-        self.columns: Tuple[str, ...] = COLUMNS
+        self.entries: dict[bytes, dict[str, Any]] = {}
+        self.columns: tuple[str, ...] = COLUMNS
 
     def file(self, path: bytes, content: bytes = b"", mode: int = 0o100644, **more: Any) -> Night:
         self.entries[path] = {**fields_of(path, mode, content, b""), **more}
@@ -105,9 +105,9 @@ class Package:
         self,
         name: str,
         version: str,
-        files: Dict[bytes, bytes],
-        conffiles: Dict[bytes, bytes] | None = None,
-        listed: Tuple[bytes, ...] = (),
+        files: dict[bytes, bytes],
+        conffiles: dict[bytes, bytes] | None = None,
+        listed: tuple[bytes, ...] = (),
         state: str = "install ok installed",
     ) -> None:
         self.name = name
@@ -145,7 +145,7 @@ class Host:
     def __init__(self) -> None:
         self.old = Night()
         self.new = Night()
-        self.packages: List[Package] = []
+        self.packages: list[Package] = []
         for path in (b"/", b"/usr"):
             self.both(lambda night: night.directory(path))
 
@@ -155,7 +155,7 @@ class Host:
         work(self.new)
         return self
 
-    def records(self) -> Dict[str, bytes]:
+    def records(self) -> dict[str, bytes]:
         """dpkg's records, by their names."""
         files = {"status": b"".join(package.status() + b"\n" for package in self.packages)}
         for package in self.packages:
@@ -170,7 +170,7 @@ class Host:
         sandbox.write("host-new.db", self.new.database())
         write_records(sandbox, self.records() if self.packages else {})
 
-    def ask(self, sandbox: CommandTest, *words: str) -> Tuple[Answer, List[Dict[str, Any]]]:
+    def ask(self, sandbox: CommandTest, *words: str) -> tuple[Answer, list[dict[str, Any]]]:
         """What aide-compare json says of the two nights: the answer, and the objects of its
         lines."""
         self.write(sandbox)
@@ -184,7 +184,7 @@ class Host:
         return str(sandbox.call("aide-compare", *words).output.decode())
 
 
-def write_records(sandbox: CommandTest, files: Dict[str, bytes]) -> None:
+def write_records(sandbox: CommandTest, files: dict[str, bytes]) -> None:
     """dpkg's records of the machine, as the commands of the sandbox see it; none without files."""
     shutil.rmtree(sandbox.path("dpkg"), ignore_errors=True)
     for name, text in files.items():
@@ -192,7 +192,7 @@ def write_records(sandbox: CommandTest, files: Dict[str, bytes]) -> None:
         sandbox.write(f"dpkg/{name}", text)
 
 
-def objects_of(answer: Answer) -> List[Dict[str, Any]]:
+def objects_of(answer: Answer) -> list[dict[str, Any]]:
     """The objects of the lines of an answer; none if it has others."""
     try:
         return [json.loads(line) for line in answer.output.splitlines()]
@@ -200,7 +200,7 @@ def objects_of(answer: Answer) -> List[Dict[str, Any]]:
         return []
 
 
-def path_of(fields: Dict[str, Any]) -> bytes:
+def path_of(fields: dict[str, Any]) -> bytes:
     if "path_hex" in fields:
         return bytes.fromhex(fields["path_hex"])
     path: str = fields["path"]
@@ -211,8 +211,8 @@ ALL_NAMES = ("standing", "severity", "package")
 
 
 def standings_of(
-    objects: List[Dict[str, Any]], names: Tuple[str, ...] = ALL_NAMES
-) -> Dict[bytes, str]:
+    objects: list[dict[str, Any]], names: tuple[str, ...] = ALL_NAMES
+) -> dict[bytes, str]:
     """What the lines say of each path, by these members, in words."""
     changes = [fields for fields in objects if "kind" in fields]
     words = {path_of(each): [each[name] for name in names if name in each] for each in changes}

@@ -10,7 +10,7 @@ import os
 import shutil
 import subprocess
 import time
-from typing import Callable, Dict, List, Tuple
+from typing import Callable
 
 from tests.commands.made_up import MORE_ACL, Night, acl_of
 from tests.commands.sandbox import CommandTest
@@ -58,8 +58,8 @@ class Built:
         self.name = name
         self.version = version
         self.architecture = architecture
-        self.files: Dict[bytes, Tuple[bytes, int]] = {}
-        self.links: Dict[bytes, bytes] = {}
+        self.files: dict[bytes, tuple[bytes, int]] = {}
+        self.links: dict[bytes, bytes] = {}
         self.fields = ""
         self.more = 0  # Bytes of a last part, which dpkg passes over.
 
@@ -112,7 +112,7 @@ class Place:
         self.sandbox = sandbox
         self.old = Night()
         self.new = Night()
-        self.built: List[Built] = []
+        self.built: list[Built] = []
         for night in (self.old, self.new):
             for path in (b"/", b"/usr", b"/usr/bin", b"/usr/share", b"/etc"):
                 night.directory(path)
@@ -150,7 +150,7 @@ class Place:
         """Writes the index and its signed text; `changed` is another index in place of the
         signed one."""
         index = "\n".join(built.fields for built in self.built).encode()
-        pack: Dict[str, Callable[[bytes], bytes]] = {".gz": gzip.compress, ".xz": lzma.compress}
+        pack: dict[str, Callable[[bytes], bytes]] = {".gz": gzip.compress, ".xz": lzma.compress}
         data = pack[ending](index) if ending else index
         folder = self.sandbox.path(SUITE)
         shutil.rmtree(folder, ignore_errors=True)
@@ -165,7 +165,7 @@ class Place:
         gpg(self.sandbox, key, *words, "--clearsign", self.sandbox.path("release"))
 
     def ask(
-        self, *words: str, sources: Tuple[str, ...] = (SUITE,), keyring: str = "keys.gpg"
+        self, *words: str, sources: tuple[str, ...] = (SUITE,), keyring: str = "keys.gpg"
     ) -> Answer:
         """What the command answers. The nights are written first."""
         self.sandbox.write("host-old.db", self.old.database())

@@ -5,7 +5,7 @@ import base64
 import hashlib
 import os
 import shutil
-from typing import Any, Dict, List
+from typing import Any
 
 from tests.commands.made_up import Package, write_records
 from tests.commands.sandbox import NOBODY
@@ -68,7 +68,7 @@ class ArchiveTest(ArchiveCase):
         place = self.place
         place.sign()
         answer = self.applied()
-        rights: List[Dict[str, Any]] = [
+        rights: list[dict[str, Any]] = [
             {"uid": 33},
             {"gid": 33},
             {"capabilities": base64.b64encode(b"x").decode()},
@@ -263,7 +263,7 @@ class ArchiveTest(ArchiveCase):
         del place.new.entries[b"/usr/share/tool/new"]
         self.assertEqual(self.links_of(b"/usr/share/tool"), {b"/usr/share/tool": 2})
 
-    def links_of(self, *paths: bytes) -> Dict[bytes, int]:
+    def links_of(self, *paths: bytes) -> dict[bytes, int]:
         """How many links directories have in what was made."""
         entries = database_of(self.place.ask().output).entries
         return {path: entries[path]["n"] for path in paths}

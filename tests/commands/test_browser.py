@@ -6,7 +6,6 @@ import json
 import os
 import time
 import unittest
-from typing import Dict
 
 from tests.commands.made_up import Host, Package, time_of
 from tests.commands.sandbox import CommandTest
@@ -75,7 +74,7 @@ def upgrade() -> Host:
     """A night on which packages were upgraded, and somebody was at work: an entry of each severity
     and kind, and 260 of packages."""
     host = Host()
-    files: Dict[str, Dict[bytes, bytes]] = {}
+    files: dict[str, dict[bytes, bytes]] = {}
     for number in range(260):
         folder = list(FOLDERS)[number % len(FOLDERS)]
         path, old, new = b"%s/item-%03d" % (folder, number), b"%d" % number, b"two %d" % number

@@ -5,7 +5,7 @@ from __future__ import annotations
 import os
 import stat
 import time
-from typing import Any, Dict, List
+from typing import Any
 
 from tests.commands.units.calls import ModuleTest
 from tests.commands.made_up import Night, time_of
@@ -32,7 +32,7 @@ def read_state(path):
 def database(is_new: bool, number: int, mark: bytes = b"") -> bytes:
     """A host before or after an upgrade, perhaps with a file that nobody else has."""
     night = Night()
-    times: Dict[str, Any] = {"mtime": time_of(1000 + number), "inode": number}
+    times: dict[str, Any] = {"mtime": time_of(1000 + number), "inode": number}
     for path in (b"/", b"/usr", b"/usr/bin"):
         night.directory(path, **times)
     for name in (b"a", b"b"):
@@ -52,7 +52,7 @@ class CanaryTest(CommandTest):
         hosts.list_hosts(*NAMES)
         return hosts
 
-    def compared(self, hosts: Hosts, *words: str) -> List[str]:
+    def compared(self, hosts: Hosts, *words: str) -> list[str]:
         """The lines of a comparison of all hosts."""
         done = hosts.compare(*words, self.path("hosts"))
         self.assertGreaterEqual(done.status, 4, (words, done))

@@ -6,7 +6,7 @@ import hashlib
 import os
 import re
 import time
-from typing import Any, Dict, Optional
+from typing import Any
 
 from tests.commands.made_up import Night, base64_of, time_of
 from tests.commands.sandbox import CommandTest
@@ -20,14 +20,14 @@ LATE = ("www4", "www5")
 EVIL = "www3"
 MARK = b"/usr/bin/mark"
 DAY = 86400
-Files = Dict[bytes, bytes]
+Files = dict[bytes, bytes]
 
 
-def database(number: int, is_upgraded: bool, more: Optional[Files] = None) -> bytes:
+def database(number: int, is_upgraded: bool, more: Files | None = None) -> bytes:
     """A host in one night, with times of its own: an upgrade changes two files, makes one and
     removes one. All are programs of root's, and those of `more` have a set-ID bit."""
     night = Night()
-    times: Dict[str, Any] = {"mtime": time_of(1000 + number), "inode": number}
+    times: dict[str, Any] = {"mtime": time_of(1000 + number), "inode": number}
     for path in (b"/", b"/usr", b"/usr/bin"):
         night.directory(path, lcount=4, **times)
     version = b"two" if is_upgraded else b"one"
@@ -54,13 +54,13 @@ class Fleet(Hosts):
         self.number += 1
         return self.number
 
-    def send(self, upgraded: tuple[str, ...], marks: Optional[Dict[str, Files]] = None) -> None:
+    def send(self, upgraded: tuple[str, ...], marks: dict[str, Files] | None = None) -> None:
         """What all hosts send the next night."""
         for host in NAMES:
             more = (marks or {}).get(host)
             self.put(host, database(self.next_number(), host in upgraded, more), None)
 
-    def night(self, *words: str) -> Dict[str, int]:
+    def night(self, *words: str) -> dict[str, int]:
         """Compares all hosts beside the canary. Returns how many changes are open on which hosts, as
         the lines and the report say."""
         hosts = self.sandbox.path("hosts")
@@ -177,7 +177,7 @@ def measured(*lines: str) -> bytes:
 class ListedOnceTest(CommandTest):
     """Every change that is not silent for its old entry is listed on some host."""
 
-    def opened(self, texts: Dict[str, tuple[bytes, bytes]]) -> Dict[str, str]:
+    def opened(self, texts: dict[str, tuple[bytes, bytes]]) -> dict[str, str]:
         """The paths of the open changes by their hosts, of which the first one is the canary."""
         hosts = Hosts(self)
         for host, (old, new) in texts.items():
@@ -186,7 +186,7 @@ class ListedOnceTest(CommandTest):
         hosts.list_hosts(*texts)
         said = hosts.compare("--canary", next(iter(texts)), self.path("hosts"))
         self.assertIn(said.status, (1, 2, 4, 5, 7), said)
-        found: Dict[str, list[str]] = {}
+        found: dict[str, list[str]] = {}
         for each in hosts.objects()[2]:
             for name in each["names"]:
                 found.setdefault(name, []).append(each["path"])

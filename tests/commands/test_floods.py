@@ -9,7 +9,7 @@ import base64
 import hashlib
 import re
 from collections.abc import Callable, Iterator
-from typing import Any, List, Tuple
+from typing import Any
 
 from tests.lib.program_test import slow
 
@@ -34,7 +34,7 @@ ADDED, REMOVED = ROOTS[0:5:4], ROOTS[3]
 SHELL = b"/var/www/html/shell.php"
 
 
-Line = Tuple[bytes, bytes]
+Line = tuple[bytes, bytes]
 
 
 def digest(kind: str, text: bytes) -> bytes:
@@ -58,7 +58,7 @@ def entry(
     return path.replace(b"/", b"\1"), b" ".join(fields) + b"\n"
 
 
-def database(entries: List[Line]) -> bytes:
+def database(entries: list[Line]) -> bytes:
     return SPEC + b"".join(line for _, line in sorted(entries)) + END
 
 
@@ -82,7 +82,7 @@ def numbered(text: str, *numbers: int) -> list[str]:
 
 @slow
 class FloodsTest(CommandTest):
-    def write_night(self, hostile: List[Line]) -> None:
+    def write_night(self, hostile: list[Line]) -> None:
         """Root's files were changed, added and removed, a service has a new file, and somebody else
         has hostile ones."""
         modes = {path: b"100755" if b"bin/" in path else b"100600" for path in ROOTS}

@@ -14,7 +14,7 @@ import signal
 import subprocess
 import time
 from collections.abc import Callable, Iterator, Sequence
-from typing import Any, Dict, List, Tuple
+from typing import Any
 
 from tests.lib.answer import Answer
 from tests.lib.waiting import until
@@ -41,8 +41,8 @@ HOSTILE = (
 )
 
 
-Fields = Dict[str, Any]
-Objects = Tuple[Fields, Dict[str, Fields], List[Fields]]
+Fields = dict[str, Any]
+Objects = tuple[Fields, dict[str, Fields], list[Fields]]
 
 
 def line(

@@ -10,7 +10,6 @@ from __future__ import annotations
 
 import os
 import re
-from typing import Dict, List
 from urllib.parse import unquote_to_bytes
 
 from tests.commands.made_up import COLUMNS, objects_of, standings_of, write_records
@@ -20,13 +19,13 @@ from tests.lib.scratch import TOP
 DIRECTORY = os.path.join(TOP, "tests", "nights")
 NIGHT = re.compile(r"n\d+-[a-z-]+\.txt")
 
-Parts = Dict[str, List[str]]
+Parts = dict[str, list[str]]
 
 
 def read_night(name: str) -> Parts:
     """The lines of a night's text, by the title above them."""
     parts: Parts = {}
-    lines: List[str] = []
+    lines: list[str] = []
     with open(os.path.join(DIRECTORY, name + ".txt"), encoding="utf-8") as file:
         for line in file.read().splitlines():
             if line.startswith("@@ "):
@@ -45,10 +44,10 @@ def database_of(parts: Parts, side: str) -> str:
     return f"@@begin_db\n@@db_spec {' '.join(COLUMNS)}\n{text}@@end_db\n"
 
 
-def records_of(parts: Parts) -> Dict[str, bytes]:
+def records_of(parts: Parts) -> dict[str, bytes]:
     """dpkg's records in the new night, by their names."""
     lines = parts["records of both"] + parts.get("records of new", [])
-    texts: Dict[str, str] = {}
+    texts: dict[str, str] = {}
     for line in lines:
         name, _, text = line.partition("\t")
         texts[name] = text
@@ -57,9 +56,9 @@ def records_of(parts: Parts) -> Dict[str, bytes]:
     return {name: (text.replace("\t", "\n") + "\n").encode() for name, text in texts.items()}
 
 
-def wanted_of(parts: Parts) -> Dict[bytes, str]:
+def wanted_of(parts: Parts) -> dict[bytes, str]:
     """What is wanted of each entry, by its path."""
-    wanted: Dict[bytes, str] = {}
+    wanted: dict[bytes, str] = {}
     for line in parts["entries of old"] + parts["entries of new"]:
         words, tab, entry = line.rpartition("\t")
         if tab:

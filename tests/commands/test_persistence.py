@@ -7,7 +7,7 @@ this mode, a link with its target, other columns, another content, or a removal.
 """
 from __future__ import annotations
 
-from typing import Any, Dict, List, NamedTuple, Tuple
+from typing import Any, NamedTuple
 
 from tests.commands import mail
 from tests.commands.made_up import Host, Night, standings_of
@@ -31,7 +31,7 @@ class Mark(NamedTuple):
     form: str
 
 
-def marks() -> List[Mark]:
+def marks() -> list[Mark]:
     found = []
     severity = form = ""
     for line in read("tests/nights/persistence.txt").splitlines():
@@ -42,12 +42,12 @@ def marks() -> List[Mark]:
     return found
 
 
-def rounds(wanted: List[Mark], size: int) -> List[List[Mark]]:
+def rounds(wanted: list[Mark], size: int) -> list[list[Mark]]:
     """The marks, so many at a time, and no path twice in one round."""
     waiting = list(wanted)
-    found: List[List[Mark]] = []
+    found: list[list[Mark]] = []
     while waiting:
-        chosen: Dict[bytes, Mark] = {}
+        chosen: dict[bytes, Mark] = {}
         for mark in waiting:
             if len(chosen) < size:
                 chosen.setdefault(mark.path, mark)
@@ -73,8 +73,8 @@ def put(host: Host, mark: Mark) -> None:
         host.old.file(path, ONE, mode)
         host.new.file(path, EVIL, mode)
     else:
-        more: Dict[str, Any] = dict(pair.split("=", 1) for pair in form.split(";"))
-        nights: List[Tuple[Night, Dict[str, Any]]] = [(host.old, {}), (host.new, more)]
+        more: dict[str, Any] = dict(pair.split("=", 1) for pair in form.split(";"))
+        nights: list[tuple[Night, dict[str, Any]]] = [(host.old, {}), (host.new, more)]
         for night, columns in nights:
             if is_directory:
                 night.directory(path, **columns)
@@ -82,7 +82,7 @@ def put(host: Host, mark: Mark) -> None:
                 night.file(path, ONE, 0o100755, **columns)
 
 
-def host_with(wanted: List[Mark]) -> Host:
+def host_with(wanted: list[Mark]) -> Host:
     """The real night, with these marks."""
     host = Host()
     parts = read_night(NIGHT)
@@ -105,7 +105,7 @@ class PersistenceTest(mail.MailTest):
         super().setUp()
         self.write("without", read("contrib/aide/debian.without"))
 
-    def body(self, wanted: List[Mark]) -> List[str]:
+    def body(self, wanted: list[Mark]) -> list[str]:
         """The lines of the mail of a night with these marks."""
         host_with(wanted).write(self)
         mail.call(self, "--exclude-from", "without", "host-old.db", "host-new.db")
@@ -146,7 +146,7 @@ class PersistenceTest(mail.MailTest):
                 self.assertTrue(names(lines[:FIRST], mark.path), (mark, lines))
 
 
-def names(lines: List[str], path: bytes) -> bool:
+def names(lines: list[str], path: bytes) -> bool:
     """Whether a line names a path, and not only one below it."""
     word = path.decode()
     return any(line.split("  ")[-1].split(": ")[0].strip() == word for line in lines)

@@ -6,7 +6,7 @@ import os
 import random
 import subprocess
 import sys
-from typing import Any, Dict, Tuple
+from typing import Any
 
 from tests.commands import mail
 from tests.commands.made_up import (
@@ -60,7 +60,7 @@ def many_kinds() -> Host:
     """A host with changes of each kind that records mean something for."""
     host = Host()
     host.both(lambda night: night.link(b"/lib", b"usr/lib"))
-    files: Dict[bytes, bytes] = {}
+    files: dict[bytes, bytes] = {}
     for number in range(12):
         path = LIB + b"tool%02d" % number
         host.old.file(path, ONE)
@@ -77,7 +77,7 @@ def many_kinds() -> Host:
 
 
 class RecordedTest(CommandTest):
-    def check(self, label: str, host: Host, wanted: Dict[bytes, str]) -> None:
+    def check(self, label: str, host: Host, wanted: dict[bytes, str]) -> None:
         """Checks the standing of paths, and the package of each recorded one."""
         found = standings_of(host.ask(self)[1], ("standing", "package"))
         got = {path: found.get(path, "no change") for path in wanted}
@@ -104,7 +104,7 @@ class RecordedTest(CommandTest):
     def test_new(self) -> None:
         """A new file or directory is recorded only if it is root's alone, and gives nobody a
         right."""
-        rows: Dict[str, Tuple[Dict[str, Any], str]] = {
+        rows: dict[str, tuple[dict[str, Any], str]] = {
             "root's": ({}, RECORDED),
             "another user's": ({"uid": 33}, OPEN),
             "another group's": ({"gid": 33}, OPEN),
@@ -297,7 +297,7 @@ class ManyTest(CommandTest):
         """Many changes take hardly more memory than a few, in each output."""
         host = many_kinds()
         host.write(self)
-        peaks: Dict[int, Dict[str, int]] = {}
+        peaks: dict[int, dict[str, int]] = {}
         for count in (FEW, MANY):
             self.write("many-old.db", many_files(count, 1))
             self.write("many-new.db", many_files(count, 2))

@@ -2,7 +2,7 @@
 or by the package that it says to be of, and raises an alarm."""
 from __future__ import annotations
 
-from typing import Any, Dict, List, Tuple
+from typing import Any
 
 from tests.commands import mail
 from tests.commands.made_up import MORE_ACL, Host, Package, acl_of, time_of
@@ -82,7 +82,7 @@ def foreign(version: str, before: bytes) -> Host:
 
 
 class SilencedTest(mail.MailTest):
-    def counts(self, host: Host) -> Dict[str, int]:
+    def counts(self, host: Host) -> dict[str, int]:
         """The counts in the state of a comparison of two nights."""
         host.write(self)
         self.call(TOOL, "-q", "--state", "state", "host-old.db", "host-new.db")
@@ -96,11 +96,11 @@ class SilencedTest(mail.MailTest):
         mail.call(self, "host-old.db", "host-new.db")
         self.assertIsNotNone(mail.sent(self), f"a mail of {label}")
 
-    def first_lines(self, host: Host) -> List[str]:
+    def first_lines(self, host: Host) -> list[str]:
         """What people read at once."""
         return host.brief(self).split("\n")[:LISTED_FIRST]
 
-    def names_all(self, label: str, host: Host, paths: Tuple[bytes, ...]) -> None:
+    def names_all(self, label: str, host: Host, paths: tuple[bytes, ...]) -> None:
         """The first lines name these paths, as open changes of severity high."""
         text = "\n".join(self.first_lines(host))
         high = text.partition("Open, severity high:\n")[2].partition("\nOpen, ")[0]
@@ -109,7 +109,7 @@ class SilencedTest(mail.MailTest):
 
     def test_directories(self) -> None:
         """A directory that is given away, or that others may write, was of severity low."""
-        rows: Dict[str, Tuple[bytes, Dict[str, Any]]] = {
+        rows: dict[str, tuple[bytes, dict[str, Any]]] = {
             "the owner of /etc": (b"/etc", {"uid": 1000}),
             "the group of /usr/bin": (b"/usr/bin", {"perm": "40775", "gid": 1000}),
             "everybody in /usr/bin": (b"/usr/bin", {"perm": "41777"}),

@@ -5,7 +5,6 @@ from __future__ import annotations
 import gzip
 import json
 import os
-from typing import List, Tuple
 
 from tests.commands import mail
 from tests.commands.made_up import Host, standings_of, time_of
@@ -43,7 +42,7 @@ TOLD = b"aide-compare: 3 open (3 high) of 7 changes\n"
 COUNTS = {"same": "1", "trusted": "3", "recorded": "0", "open": "3", "open_high": "3"}
 
 
-def upgraded(with_marks: bool = True) -> Tuple[Host, Host]:
+def upgraded(with_marks: bool = True) -> tuple[Host, Host]:
     """A host and a canary that got the same upgrade; somebody was at work on the host."""
     host, canary = Host(), Host()
     for each, shift in ((host, 0), (canary, 500)):
@@ -63,7 +62,7 @@ def upgraded(with_marks: bool = True) -> Tuple[Host, Host]:
     return host, canary
 
 
-def put(sandbox: CommandTest, with_marks: bool = True) -> Tuple[Host, Host]:
+def put(sandbox: CommandTest, with_marks: bool = True) -> tuple[Host, Host]:
     """Writes all four databases."""
     host, canary = upgraded(with_marks)
     host.write(sandbox)
@@ -120,7 +119,7 @@ class TrustedTest(mail.MailTest):
         self.write("odd.db", new.replace(b" selinux ", b" fstype "))
         for side in ("old", "new"):
             self.write(f"canary-{side}.db.gz", gzip.compress(self.read(f"canary-{side}.db")))
-        rows: List[Tuple[Tuple[str, ...], bytes | None]] = [
+        rows: list[tuple[tuple[str, ...], bytes | None]] = [
             (("canary-old.db.gz", "canary-new.db.gz", *BOTH), None),
             (("canary-old.db", "canary-new.db.gz", *BOTH), None),
             (("canary-old.db", "odd.db", *BOTH), None),
@@ -140,7 +139,7 @@ class TrustedTest(mail.MailTest):
         put(self)
         sound = self.read("canary-new.db")
         named = b"the trusted new database"
-        rows: List[Tuple[str, bytes | None, int, bytes]] = [
+        rows: list[tuple[str, bytes | None, int, bytes]] = [
             ("missing", None, 18, b"cannot open %s canary-new.db: No such file" % named),
             ("empty", b"", 24, named + b" is canary-new.db"),
             ("cut", sound[:-10], 24, named + b" is canary-new.db"),

@@ -8,7 +8,7 @@ from __future__ import annotations
 import re
 from collections.abc import Sequence
 from functools import lru_cache
-from typing import Any, Mapping, NamedTuple, NoReturn, Tuple
+from typing import Any, Mapping, NamedTuple, NoReturn
 
 from .attributes import EMPTY_NAMES, Groups, NAMES, expression_fault, meaning_of
 from .texts import BLANKS, lines_of
@@ -81,7 +81,7 @@ class Fault(NamedTuple):
 
 
 # An opening line, and whether a line is in its second part.
-Around = Tuple[Mark, bool]
+Around = tuple[Mark, bool]
 # The values of the options by their names.
 Settings = Mapping[str, Any]
 

@@ -3,7 +3,7 @@ values."""
 from __future__ import annotations
 
 from itertools import accumulate
-from typing import Any, Dict, List, NamedTuple, Tuple
+from typing import Any, NamedTuple
 
 from .attributes import ATTRIBUTES
 from .fields import Meaningless, decoded, number_of, values_of
@@ -14,10 +14,10 @@ WITHOUT_ENTRIES = b"@@begin_db\n@@db_spec name\n@@end_db\n"
 KNOWN = [b"name", b"attr"] + [attribute.column.encode() for attribute in ATTRIBUTES]
 
 # The number of a line and its fields.
-Line = Tuple[int, List[bytes]]
+Line = tuple[int, list[bytes]]
 # The values of the attributes that an entry has, and the entries by their paths.
-Entry = Dict[str, Any]
-Entries = Dict[bytes, Entry]
+Entry = dict[str, Any]
+Entries = dict[bytes, Entry]
 
 
 class Fault(NamedTuple):

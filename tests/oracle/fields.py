@@ -4,13 +4,13 @@ from __future__ import annotations
 import base64
 import binascii
 import re
-from typing import Any, List
+from typing import Any
 
 from .attributes import Attribute
 
 # What a field means, by the form of its attribute: a number or bytes, or None for a link without a
 # name; none at all if the entry has no such attribute.
-Values = List[Any]
+Values = list[Any]
 
 # A sign, noughts that do not count, and the other digits.
 NUMBER = re.compile(rb"(-?)(?=[0-9])0*([0-9]*)")

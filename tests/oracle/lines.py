@@ -8,7 +8,7 @@ from __future__ import annotations
 
 import hashlib
 from collections.abc import Iterable
-from typing import Any, NamedTuple, Tuple, Union
+from typing import Any, NamedTuple, Union
 
 from tests.lib.answer import Answer
 
@@ -28,7 +28,7 @@ LINES_USAGE = (
     b" -c FILE [-B TEXT] [-A TEXT]"
 )
 # The name of a member of an object, and its value as JSON.
-Member = Tuple[str, bytes]
+Member = tuple[str, bytes]
 # An entry that accounts for a change, the line of a list, or nothing.
 Account = Union[str, int, None]
 # The rules of the empty list, and its text.

@@ -3,7 +3,6 @@ from __future__ import annotations
 
 import base64
 import hashlib
-from typing import Dict
 
 from .attributes import ATTRIBUTES, Attribute
 from .comparison import Change, compared, is_from, kind_of, shown, summary_of, title_of
@@ -13,7 +12,7 @@ from .fields import FILE_TYPES
 from .texts import pieces_of, printed
 
 # How many changes there are of each kind.
-Counts = Dict[str, int]
+Counts = dict[str, int]
 RULE = b"-" * 51
 KINDS = ["added", "removed", "changed"]
 SUMMARY_WIDTH, NAME_WIDTH, PIECE_WIDTH = 25, 10, 32

@@ -2,7 +2,7 @@
 from __future__ import annotations
 
 from collections.abc import Callable
-from typing import Dict, List, NamedTuple, Tuple, Union
+from typing import NamedTuple, Union
 
 from tests.lib.answer import Answer
 
@@ -86,9 +86,9 @@ class Unread:
 File = Union[bytes, Unread, None]
 Files = Callable[[bytes], File]
 # The values of the options of a command line by their names, an empty one if there is none.
-Job = Dict[str, bytes]
+Job = dict[str, bytes]
 # What gives the output of a comparison and its status.
-Written = Callable[[Database, Database, List[bytes], Settings], Tuple[bytes, int]]
+Written = Callable[[Database, Database, list[bytes], Settings], tuple[bytes, int]]
 
 
 def option_of(word: bytes, known: list[str]) -> tuple[list[str], bytes | None]:

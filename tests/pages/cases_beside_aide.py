@@ -3,7 +3,7 @@ tests/pages/beside_aide.py gives to AIDE and to the program."""
 from __future__ import annotations
 
 import gzip
-from typing import NamedTuple, Tuple, TypeVar
+from typing import NamedTuple, TypeVar
 
 
 class Column(NamedTuple):
@@ -14,7 +14,7 @@ class Column(NamedTuple):
 
 
 T = TypeVar("T")
-Pair = Tuple[T, T]
+Pair = tuple[T, T]
 SHA256, I_BIT, ANF, ARF, TYPE, GROWING = 30, 27, 28, 29, 35, 40
 CHMOD = ("100644", "100600")
 XATTRS, FLAGS = Column("xattrs", (33,)), Column("e2fsattrs", (36,))

@@ -18,13 +18,13 @@ import shutil
 import subprocess
 import sys
 import tempfile
-from typing import Dict, List, NamedTuple
+from typing import NamedTuple
 
 from tests.lib.tally import Tally
 from tools.lib.arguments import add_program, parser_of
 
 # The names of the details of an entry, by its path.
-Details = Dict[str, List[str]]
+Details = dict[str, list[str]]
 SLOTS = "YlZbpugamcinHAXSEC"
 ALL = "p+ftype+u+g+s+b+m+c+i+n+l+md5+sha256+sha512+acl+xattrs+e2fsattrs"
 GROUPS = [

@@ -15,7 +15,6 @@ import os
 import re
 import tempfile
 from collections.abc import Iterator
-from typing import Dict
 
 from tests.lib.answer import Answer
 
@@ -31,7 +30,7 @@ TRUSTED = b" --trusted-old /@DIR@/trusted_old --trusted-new /@DIR@/trusted_new"
 DATABASES = b"database_in=file:/@DIR@/old\ndatabase_new=file:/@DIR@/new\n"
 
 # The sections of a case by their names.
-Case = Dict[str, bytes]
+Case = dict[str, bytes]
 
 
 def unescaped(text: bytes) -> bytes:

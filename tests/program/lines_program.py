@@ -3,7 +3,7 @@ report over the same words."""
 from __future__ import annotations
 
 import json
-from typing import Any, Dict
+from typing import Any
 
 from tests.lib.answer import Answer, difference, run, shown
 from tests.lib.program_test import ProgramTest
@@ -11,7 +11,7 @@ from tests.oracle.files import wanted, wanted_lines
 from tests.oracle.session import USAGE
 
 # The members of an object, each name once.
-Members = Dict[str, Any]
+Members = dict[str, Any]
 
 
 def pairs(members: list[tuple[str, Any]]) -> Members:

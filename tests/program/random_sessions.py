@@ -7,7 +7,6 @@ import random
 import shutil
 import tempfile
 from collections.abc import Callable
-from typing import List, Tuple
 
 from tests.lib.tally import side_by_side
 from tests.program.random_texts.configurations import random_configuration, random_words
@@ -17,8 +16,8 @@ from tests.lib.program_test import AnswerTest
 
 # What writes the files of a session, by a seed, its number and a folder, and gives its words; and
 # what gives the status that is wanted of words, and what is not as wanted.
-Make = Callable[[int, int, bytes], List[bytes]]
-Check = Callable[[List[bytes]], Tuple[int, List[str]]]
+Make = Callable[[int, int, bytes], list[bytes]]
+Check = Callable[[list[bytes]], tuple[int, list[str]]]
 
 
 # The names of folders: most are plain, and others have blanks, a newline, bytes above 127, what JSON

@@ -27,7 +27,7 @@ import os
 import struct
 from collections import Counter
 from collections.abc import Callable, Iterator
-from typing import List, NamedTuple, Tuple
+from typing import NamedTuple
 
 from tests.lib.answer import Answer, difference
 from tests.lib.program_test import AnswerTest, new_seed, slow
@@ -61,7 +61,7 @@ WAYS: dict[str, Callable[[int], int]] = {
 }
 SHOWN = 3
 # The label of a session and its words.
-Labelled = Tuple[str, List[bytes]]
+Labelled = tuple[str, list[bytes]]
 NAME_LIMIT, PATH_LIMIT, FOLDER_NAME = 64, 4095, b"f" * 200
 
 

@@ -17,7 +17,7 @@ import os
 import struct
 from collections import Counter
 from collections.abc import Callable, Iterator
-from typing import List, NamedTuple, Tuple
+from typing import NamedTuple
 
 from tests.lib.answer import Answer, difference
 from tests.lib.program_test import AnswerTest, slow
@@ -58,7 +58,7 @@ class Session(NamedTuple):
 
 
 # The label of a session, its words and the texts of its files.
-Labelled = Tuple[str, List[bytes], Tuple[bytes, ...]]
+Labelled = tuple[str, list[bytes], tuple[bytes, ...]]
 
 
 def sessions(folder: bytes) -> Iterator[Labelled]:

@@ -5,14 +5,13 @@ from __future__ import annotations
 import os
 import re
 from collections.abc import Sequence
-from typing import List, Tuple
 
 from tools.source.checker import TOP, libraries
 
 # A name that a file of specs/ defines: its crate, its file and itself.
-Place = Tuple[str, str, str]
+Place = tuple[str, str, str]
 # Such names, each once and in the order in which they were met.
-Places = List[Place]
+Places = list[Place]
 IMPORT = re.compile(r"use\s+Rattle\.(\w+)\.specs\.([\w.]+?)\.\{([^}]*)\}", re.S)
 ALIAS = re.compile(r"use\s+Rattle\.(\w+)\.specs\.([\w.]+) as (\w+)\s*$", re.M)
 REEXPORT = re.compile(r"^pub use Rattle\.(\w+)\.specs\.([\w.]+)\s*$", re.M)

@@ -2,7 +2,7 @@
 for."""
 from __future__ import annotations
 
-from typing import Any, Optional
+from typing import Any
 from unittest import mock
 
 from tests.commands.units.calls import ModuleTest
@@ -20,7 +20,7 @@ HIGH = Counts(recorded=1, recorded_high=1)
 OPEN = Counts(open=2, open_low=1, open_medium=1)
 OPEN_HIGH = Counts(open=1, open_high=1)
 OK, WARNING, CRITICAL, UNKNOWN = range(4)
-ROWS: tuple[tuple[int, int, Optional[Counts], dict[str, str]], ...] = (
+ROWS: tuple[tuple[int, int, Counts | None, dict[str, str]], ...] = (
     (OK, 0, None, {}),
     (WARNING, 1, None, {}),
     (CRITICAL, 2, None, {}),
@@ -49,7 +49,7 @@ ROWS: tuple[tuple[int, int, Optional[Counts], dict[str, str]], ...] = (
 )
 
 
-def level(status: int, counts: Optional[Counts], words: dict[str, str]) -> int:
+def level(status: int, counts: Counts | None, words: dict[str, str]) -> int:
     limits = {name: words.get(name) for name in ("warning", "critical")}
     asked = {name: alarm_limit(limit) if limit else None for name, limit in limits.items()}
     state: Any = mock.Mock(status=status, standings=counts)

@@ -7,7 +7,6 @@ import hashlib
 import os
 import signal
 import time
-from typing import Union
 from unittest import mock
 
 from tests.commands.units.calls import OTHER, PlacesTest
@@ -18,7 +17,7 @@ from aide_compare.base.ending import write_all
 from aide_compare.compare import unpack
 
 
-def others_of(path: str) -> tuple[list[Union[int, str]], bool]:
+def others_of(path: str) -> tuple[list[int | str], bool]:
     with open_directory(path) as folder:
         return sorted(folder.others), folder.is_safe()
 
@@ -31,7 +30,7 @@ def text_of(path: str) -> bytes:
         os.close(descriptor)
 
 
-def copied(path: str, most: int = 1 << 40) -> Union[bytes, str]:
+def copied(path: str, most: int = 1 << 40) -> bytes | str:
     copy = unpack.copy_database("new", path, most)
     text, digest = os.pread(copy.fd, copy.size + 1, 0), copy.sha256
     os.close(copy.fd)

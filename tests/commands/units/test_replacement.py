@@ -7,7 +7,7 @@ import os
 import stat
 import time
 from collections.abc import Callable
-from typing import Any, List, Tuple
+from typing import Any
 from unittest import mock
 
 from tests.commands.units.calls import OTHER, PlacesTest, in_child
@@ -16,7 +16,7 @@ from aide_compare.base import files, replacement
 from aide_compare.base.directories import closed_after, open_directory
 from aide_compare.base.rights import become_owner
 
-Replaced = Tuple[bytes, int, int, List[str]]
+Replaced = tuple[bytes, int, int, list[str]]
 
 
 def replaced(path: str, *texts: bytes) -> Replaced:

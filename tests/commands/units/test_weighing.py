@@ -1,7 +1,7 @@
 """What a line alone says of a change: the rights of both sides, and which attributes differ."""
 from __future__ import annotations
 
-from typing import Any, Dict
+from typing import Any
 
 from tests.commands.units.calls import ModuleTest
 from tests.commands.units.streams import line_of
@@ -15,14 +15,14 @@ from aide_compare.lines.rights import differing, rights_of
 
 SAME = "f...........H....."
 PATH = "/srv/x"
-OLD: Dict[str, Any] = {
+OLD: dict[str, Any] = {
     **{"Type": "File", "Perm": "0755", "UID": 0, "GID": 5, "SHA256": "00", "ACL": "POSIX,0,0"},
     **{"XAttrs_hex": "ff", "SELinux": "c2U=", "Caps": "Y2Fw"},
 }
 NEW = {**OLD, "SHA256": "11"}
 
 
-def fields_of(letters: str = SAME, **sides: Dict[str, Any]) -> Dict[str, Any]:
+def fields_of(letters: str = SAME, **sides: dict[str, Any]) -> dict[str, Any]:
     """The object of a line of an entry that changed, or that only one side has."""
     kind = {1: "changed", 0: "added"}[int("old" in sides)]
     if "new" not in sides:
@@ -30,7 +30,7 @@ def fields_of(letters: str = SAME, **sides: Dict[str, Any]) -> Dict[str, Any]:
     return {"kind": kind, "path": PATH, "summary": letters, **sides}
 
 
-def weighed(scales: Scales, fields: Dict[str, Any]) -> Weighed:
+def weighed(scales: Scales, fields: dict[str, Any]) -> Weighed:
     path = PATH.encode()
     line = line_of(fields)
     return scales.weighed(Outline(fields["kind"], path, None, key_of_path(path), line), 7)

@@ -4,18 +4,18 @@ from __future__ import annotations
 
 import base64
 import random
-from typing import Any, Dict, List, Optional, Tuple, Union
+from typing import Any, Union
 
 from tests.oracle.attributes import ATTRIBUTES
 from tests.oracle.database import order_of
 from tests.program.field_rows import REFUSED
 
 # The form of a column's fields, and the columns of a database.
-Form = Union[str, Tuple[int, int]]
-Columns = List[Tuple[bytes, Form]]
+Form = Union[str, tuple[int, int]]
+Columns = list[tuple[bytes, Form]]
 # The values of an entry by its columns, and the entries by their paths.
-Row = Dict[bytes, Any]
-Rows = Dict[bytes, Row]
+Row = dict[bytes, Any]
+Rows = dict[bytes, Row]
 
 PIECES = b"|a|b|a-b|a.b|ab|B|etc|%41|%zz|#x|@|a b|\xc3\xa9|\xff|\x01|\n|\\|\x7f|0".split(b"|")
 PIECES += [b".a", b"bc", b"]"]
@@ -30,7 +30,7 @@ MODES = [
     ).split()
 ]
 BITS = [0, 0, 2**64 - 1, 4095, 4094, 316, 2**40 + 36, 32]
-LINKS: List[Optional[bytes]] = [None, None]
+LINKS: list[bytes | None] = [None, None]
 LINKS += b"|0|0-|00|target|../x y|%41|\xff|a\nb|\\|-".split(b"|")
 # A name that fills a piece of the details, and one that has a byte more.
 LINKS += [b"x" * 32, b"x" * 33]
