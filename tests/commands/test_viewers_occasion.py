@@ -92,15 +92,8 @@ class OccasionTest(CommandTest):
         for name in ("lines", "page"):
             self.assertEqual(os.stat(self.path(name)).st_mode & 0o777, 0o600)
         for more in (["--json", "-"], ["--page", "/dev/stdout"]):
-            self.answered(
-                7,
-                (lines if "--json" in more else page)[-300:],
-                b"",
-                "aide-compare",
-                *more,
-                OLD,
-                NEW,
-            )
+            text = lines if "--json" in more else page
+            self.answered(7, text[-300:], b"", "aide-compare", *more, OLD, NEW)
         self.refused(USAGE, b"only one output", "aide-compare", "--json", "-", "--page=-", OLD, NEW)
         said = b"cannot write the output of --json none/lines"
         self.refused(DEVICE, said, "aide-compare", "--json", "none/lines", OLD, NEW, state="state")

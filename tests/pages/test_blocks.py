@@ -2,6 +2,7 @@
 the pages say of statuses, messages and options."""
 from __future__ import annotations
 
+import glob
 import gzip
 import os
 import re
@@ -224,7 +225,10 @@ class WordsTest(unittest.TestCase):
                         self.assertIn(piece.strip(" :"), text)
 
     def test_options(self) -> None:
-        """The options of the commands and those of their pages are the same."""
+        """The options of the commands and those of their pages are the same, and each is in some
+        test."""
+        tests = glob.glob(os.path.join(TOP, "tests", "**", "*.py"), recursive=True)
+        tried = set(re.findall(r"--[a-z][\w-]*", "".join(map(read, tests))))
         in_each = {"-h", "--help", "--version"}
         for page in set(MANUALS) - set(OF_THE_PROGRAM):
             entries = re.findall(r"^\.It (Fl .*)$", read(page).replace("\\\n", ""), re.M)
@@ -237,6 +241,7 @@ class WordsTest(unittest.TestCase):
                 others = listed_by([FRONT, "compare"]) if is_comparison else set()
                 self.assertLessEqual(listed - others, named)
                 self.assertLessEqual(named, listed | more)
+                self.assertLessEqual({name for name in listed if len(name) > 2}, tried)
 
     def test_defaults(self) -> None:
         """The pages of a comparison and of its mail name the options that the administrator's file

@@ -3,11 +3,13 @@ from __future__ import annotations
 
 import base64
 import os
+import re
 from collections.abc import Iterator
 from typing import Any
 from unittest import mock
 
 from tests.commands.units.calls import ModuleTest
+from tests.lib.scratch import read
 
 from aide_compare.base.words import SEVERITIES
 from aide_compare.changes import severity
@@ -134,6 +136,9 @@ DIRECTORIES = {
 SHIPPED = {
     "high": """
         /var/cache/apt/archives/cron_3.0-1_amd64.deb /var/cache/man/.forward /home/anna/.forward
+        /etc/profile /root/.profile /etc/init.d/x /usr/local/lib/systemd/x /etc/grub.d/x
+        /etc/network/interfaces /etc/logrotate.d/x /usr/share/keyrings/x.gpg /etc/acpi/x
+        /etc/skel/.bashrc /var/lib/dpkg/diversions
         /etc/passwd /etc/passwd- /etc/shadow /etc/group /etc/sudoers.d/x /etc/ld.so.preload
         /etc/pam.d/x /etc/ssh/sshd_config /home/a/.ssh/authorized_keys /etc/cron.d/x
         /var/spool/cron/crontabs/root /etc/systemd/system/x.service
@@ -161,14 +166,16 @@ SHIPPED = {
         """,
     "low": """
         /run/user/1000/systemd/units/x /var/log/x /usr/share/doc/x /var/cache/x /run/x
-        /run/systemd/units/x /var/backups/x
+        /run/systemd/units/x /var/backups/x /usr/share/locale/x /var/lib/dpkg/info/x.list
         """,
 }
 PROGRAMS = (
     *(b"/usr/bin/x", b"/var/log/x", b"/run/x", b"/var/cache/x", b"/usr/lib/x/x", b"/opt/x/x"),
     *(b"/srv/x", b"/usr/share/doc/x", b"/home/anna/x"),
 )
-CERTIFICATES = (
+# What gives nobody a right once it is removed.
+REMOVED = (
+    b"/var/cache/apt/archives/x.deb",
     b"/etc/ssl/certs/x.pem",
     b"/usr/share/ca-certificates/mozilla/x.crt",
     b"/usr/local/share/ca-certificates/x.crt",
@@ -240,10 +247,27 @@ class SeverityTest(ModuleTest):
             level = level_of(table, program, None, entry(PROGRAM))
             self.expect(f"a program {program.decode()}", level, "high")
 
-    def test_certificates(self) -> None:
-        """A certificate of an authority that went gives nobody a right; another one does."""
+    def test_lines(self) -> None:
+        """Each line of the shipped table decides on some change that is tried here."""
         table = Severity()
-        for path in CERTIFICATES:
+        shipped = (path for paths in SHIPPED.values() for path in paths.split())
+        tried: list[tuple[bytes, Side, Side]] = [
+            *((os.fsencode(path), None, entry(FILE)) for path in shipped),
+            *((path, None, entry(PROGRAM)) for path in PROGRAMS),
+            *((path, entry(FILE), None) for path in REMOVED),
+            *((b"/srv/x", old, new) for _, old, new, _ in RIGHTS),
+            (b"/usr/bin/x", None, entry(0o120777)),
+        ]
+        decided = {rank_of(table, *each) % RANKS for each in tried}
+        lines = re.findall("^(?:high|medium|low) .*", read("commands/share/severity.conf"), re.M)
+        missing = [line for number, line in enumerate(lines) if number not in decided]
+        self.assertEqual(missing, [])
+
+    def test_removed(self) -> None:
+        """A certificate of an authority, or a package, that went gives nobody a right; another one
+        does."""
+        table = Severity()
+        for path in REMOVED:
             self.expect("a removed one", level_of(table, path, entry(FILE), None), "low")
             self.expect("an added one", level_of(table, path, None, entry(FILE)), "high")
             self.expect("another one", level_of(table, path, entry(FILE), entry(FILE)), "high")
@@ -279,13 +303,7 @@ class SeverityTest(ModuleTest):
         self.assertEqual(level_of(table, b"/opt/a", None, link), "low")
         self.assertEqual(level_of(table, b"/srv/a", None, link), "medium", "in no line")
         self.assertEqual(level_of(table, b"/opt/a", None, entry(FILE)), "high", "its second line")
-        for line in (
-            b"urgent any /opt/*",
-            b"low /opt/*",
-            b"low odd /opt/*",
-            b"low any opt",
-            b"low",
-        ):
+        for line in (b"urgent any /*", b"low /opt/*", b"low odd /opt/*", b"low any opt", b"low"):
             self.fails(15, "table, line 1: ", Severity, self.write("table", line + b"\n"))
         with mock.patch.object(severity, "SHIPPED", ("nowhere",)):
             self.fails(18, "severity.conf is missing", Severity)

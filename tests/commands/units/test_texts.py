@@ -146,28 +146,17 @@ class TextsTest(ModuleTest):
         self.assertEqual(text.count(b"\n"), 1, "a newline in a value")
         self.assertEqual(state.parse_state(text).error, "a\\012b")
         self.assertIn(b'"status": 18,', text, "a status by its name")
-        for key, value in (
-            ("format", 2),
-            ("status", 5),
-            ("status", None),
-            ("status", 0),
-            ("status", True),
-            ("status", 10**30),
-            ("added", None),
-            ("added", "1"),
-            ("added", -1),
-            ("added", 1.0),
-            ("error", None),
-            ("error", 5),
-            ("old_sha256", "a" * 63),
-            ("old_sha256", "A" * 64),
-            ("time", 10**30),
-            ("open", 5),
-            ("open_low", None),
-            ("recorded", -1),
-            ("skipped_old", "x"),
-            ("skipped_new", [1]),
-        ):
+        wrong: dict[str, list[object]] = {
+            "format": [2],
+            "status": [5, None, 0, True, 10**30],
+            "added": [None, "1", -1, 1.0],
+            "error": [None, 5],
+            "old_sha256": ["a" * 63, "A" * 64],
+            "time": [10**30],
+            **{"open": [5], "open_low": [None], "recorded": [-1]},
+            **{"skipped_old": ["x"], "skipped_new": [[1]]},
+        }
+        for key, value in ((key, value) for key, values in wrong.items() for value in values):
             with self.subTest(key=key, value=value), self.assertRaises(ValueError):
                 state.parse_state(json.dumps({**fields, key: value}).encode())
         for key in ("format", "status", "removed", "same"):

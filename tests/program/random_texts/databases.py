@@ -224,11 +224,8 @@ def broken(
         return text[: pick.randint(0, len(text))]
     if way == "byte":
         at = pick.randrange(len(text))
-        return (
-            text[:at]
-            + pick.choice([b"\n", b" ", b"@", b"#", b"/", b"\0", b"%", b"0", b"\r", b"="])
-            + text[at + 1 :]
-        )
+        byte = pick.choice([b"\n", b" ", b"@", b"#", b"/", b"\0", b"%", b"0", b"\r", b"="])
+        return text[:at] + byte + text[at + 1 :]
     if way == "drop":
         del lines[place]
     elif way == "double":
