@@ -10,6 +10,7 @@ from __future__ import annotations
 
 import glob
 import os
+import re
 import subprocess
 import sys
 
@@ -28,18 +29,28 @@ OPTIONS_IN_MANUAL = "tests.pages.test_blocks"
 TRIED = ("commands/", "contrib/", "man/", "tests/commands/test_", "tests/program/test_")
 
 
-def changed(since: str) -> list[str]:
-    """The files that differ from a revision, and new ones."""
-    names: set[str] = set()
-    for words in (["ls-files", "--others", "--exclude-standard"], ["diff", "--name-only", since]):
-        try:
-            done = subprocess.run(
-                ["git", "-C", TOP, *words], stdout=subprocess.PIPE, check=True, text=True
-            )
-        except (OSError, subprocess.CalledProcessError) as error:
-            sys.exit(f"what was changed is not known ({error}): --all needs no git")
-        names.update(done.stdout.splitlines())
-    return sorted(names)
+# What users see: an entry of a list in the manual, such as an option, and a row of severities.
+SEEN = re.compile(r"^[+-](?:\.It |(?:high|medium|low) )", re.M)
+
+
+def git(*words: str) -> str:
+    try:
+        done = subprocess.run(
+            ["git", "-C", TOP, *words], stdout=subprocess.PIPE, check=True, text=True
+        )
+    except (OSError, subprocess.CalledProcessError) as error:
+        sys.exit(f"what was changed is not known ({error}): --all needs no git")
+    return done.stdout
+
+
+def changed(since: str, tally: Tally) -> list[str]:
+    """The files that differ from a revision, and new ones. What users see of them is a failure if
+    CHANGELOG is none of them."""
+    names = git("ls-files", "--others", "--exclude-standard") + git("diff", "--name-only", since)
+    text = git("diff", "-U0", since, "--", "man", "commands/share")
+    if "CHANGELOG.md" not in names and SEEN.search(text):
+        tally.add("CHANGELOG.md", ["it has no entry for what users see of the changes"])
+    return sorted(set(names.splitlines()))
 
 
 def tests_for(names: list[str], tally: Tally) -> list[str]:
@@ -85,7 +96,7 @@ def main() -> int:
     )
     args = parser.parse_args()
     tally = Tally()
-    names = [] if args.all else changed(args.since)
+    names = [] if args.all else changed(args.since, tally)
     modules = set(unit_tests.modules() if args.all else tests_for(names, tally))
     checks = set(unit_tests.modules(unit_tests.SOURCE))
     if not args.all and not any(name.endswith(".py") for name in names):
