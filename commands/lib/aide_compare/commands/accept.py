@@ -146,7 +146,7 @@ def compare_and_print(new: str, baseline: str) -> State:
     differs."""
     words = ["--", baseline, new]
     request = with_defaults(given_by(words), words)
-    ended = Printer(request).task().carry_out()
+    ended = Printer(request).job().carry_out()
     if ended.status > 7:
         raise Fault(Status(ended.status), "nothing was compared, so nothing is accepted")
     return ended.state()
@@ -181,7 +181,7 @@ class AcceptOptions(Asked):
         )
     )
 
-    def check(self) -> None:
+    def refuse_contradictions(self) -> None:
         """Refuses what means nothing without another word, or with it."""
         if len(self.files) not in (0, 2):
             raise Fault(Status.USAGE, "name NEW and BASELINE, or none", HINT)
@@ -234,7 +234,7 @@ def run(request: AcceptRequest, is_quiet: bool) -> int:
 def main(arguments: Sequence[str]) -> int:
     usage = f"{NAME} [OPTIONS] [NEW BASELINE]"
     asked = read(AcceptOptions, arguments, NAME, DESCRIPTION, EPILOG, usage)
-    asked.check()
+    asked.refuse_contradictions()
     new, baseline = asked.files or reversed(machines_databases(arguments))
     digest = asked.digest or wanted_after_question(new, baseline)
     request = AcceptRequest(new, baseline, digest, asked.keep_open, asked.max_size)

@@ -337,7 +337,7 @@ class Printer:
         self.form = form_of(request)
         self.is_printed = self.form != NOTHING and not request.is_quiet
 
-    def task(self) -> ComparisonJob:
+    def job(self) -> ComparisonJob:
         """The comparison that prints so."""
         before = [Row(notes, self._notes)]
         if self.is_printed:
@@ -398,8 +398,8 @@ def main(arguments: Sequence[str]) -> int:
         give_up(own_request.user)
     try:
         printer = Printer(with_defaults(given, arguments))
-        task = printer.task()
+        job = printer.job()
     except Fault as fault:
         keep_failure(own_request.state, fault)
         raise
-    return printer.status_of(task.carry_out())
+    return printer.status_of(job.carry_out())
