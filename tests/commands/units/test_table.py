@@ -11,17 +11,17 @@ from aide_compare.base.paths import key_of_path
 from aide_compare.base.words import SEVERITIES
 from aide_compare.changes import table as tables
 from aide_compare.changes.severity import RANKS
-from aide_compare.changes.table import Table
-from aide_compare.changes.weighing import Weighed, directory_of, group_of_owner, party_of
+from aide_compare.changes.table import Table, Values
+from aide_compare.changes.weighing import directory_of, group_of_owner, party_of
 
 
-def change(path: bytes) -> Weighed:
+def change(path: bytes) -> Values:
     key = key_of_path(path)
     place = (group_of_owner(0), SEVERITIES.index("high") * RANKS, party_of(0))
-    return Weighed(key, directory_of(key), "changed", *place, "", 0, 0)
+    return bytearray(key), bytearray(directory_of(key)), "changed", *place, "", 0, 0
 
 
-def table_of(*changes: Weighed) -> Table:
+def table_of(*changes: Values) -> Table:
     table = Table()
     table.add(changes)
     return table

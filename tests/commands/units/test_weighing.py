@@ -7,7 +7,7 @@ from tests.commands.units.calls import ModuleTest
 from tests.commands.units.streams import line_of
 
 from aide_compare.base.paths import key_of_path
-from aide_compare.changes.weighing import Scales, Weighed, is_content
+from aide_compare.changes.weighing import Known, Scales, is_content
 from aide_compare.lines.attributes import FORMS
 from aide_compare.lines.change import change_of
 from aide_compare.lines.reader import MAX_LINE, ByForm, Outline
@@ -30,10 +30,10 @@ def fields_of(letters: str = SAME, **sides: dict[str, Any]) -> dict[str, Any]:
     return {"kind": kind, "path": PATH, "summary": letters, **sides}
 
 
-def weighed(scales: Scales, fields: dict[str, Any]) -> Weighed:
+def weighed(scales: Scales, fields: dict[str, Any]) -> tuple[Known, int]:
     path = PATH.encode()
     line = line_of(fields)
-    return scales.weighed(Outline(fields["kind"], path, None, key_of_path(path), line), 7)
+    return scales.weighed(Outline(fields["kind"], path, None, key_of_path(path), line))
 
 
 class WeighingTest(ModuleTest):
@@ -60,11 +60,11 @@ class WeighingTest(ModuleTest):
         letters = SAME[:4] + "p" + SAME[5:]
         came = weighed(scales, fields_of(letters, old=OLD, new=set_id))
         went = weighed(scales, fields_of(letters, old={**OLD, "Perm": "4755"}, new=NEW))
-        self.assertLess(came.rank, went.rank)
+        self.assertLess(came[1], went[1])
         for side in (OLD, {**OLD, "Pad": "x" * MAX_LINE}):
             again = weighed(scales, fields_of(letters, old=side, new=set_id))
-            self.assertEqual(again[:-1], came[:-1], "known, or too long to be kept")
-        self.assertEqual((came.line_at, came.party, came.asked), (7, None, ""))
+            self.assertEqual(again, came, "known, or too long to be kept")
+        self.assertEqual((came[0].party, came[0].asked), (0, ""))
 
     def test_remembered(self) -> None:
         """An access list in base 16 counts, although such rights without it came before."""
@@ -72,7 +72,7 @@ class WeighingTest(ModuleTest):
         plain = {"Type": "File", "Perm": "0644", "UID": 0, "GID": 0}
         before = weighed(scales, fields_of(old=plain, new=plain))
         listed = weighed(scales, fields_of(old=plain, new={**plain, "ACL_hex": "ff"}))
-        self.assertLess(listed.rank, before.rank)
+        self.assertLess(listed[1], before[1])
 
     def test_forms(self) -> None:
         """Lines with other numbers or digests have one form, and none with another right."""
@@ -90,7 +90,7 @@ class WeighingTest(ModuleTest):
         pair = [fields_of(letters, old=socket, new=socket) for letters in (SAME, "!" + SAME[1:])]
         for first, then in (pair, pair[::-1]):
             scales = Scales()
-            self.assertNotEqual(weighed(scales, first).rank, weighed(scales, then).rank)
+            self.assertNotEqual(weighed(scales, first)[1], weighed(scales, then)[1])
 
     def test_differing(self) -> None:
         """A right whose letter says no difference is no value of the change; all others stay."""
@@ -145,4 +145,4 @@ class WeighingTest(ModuleTest):
             ("a mode that is not known", fields_of(old=old, new=unknown), False),
             ("another owner", fields_of(old=OLD, new={**NEW, "UID": 1}), False),
         ):
-            self.expect(label, weighed(scales, fields).asked == "content", is_it)
+            self.expect(label, weighed(scales, fields)[0].asked == "content", is_it)

@@ -14,9 +14,9 @@ from aide_compare.base.ending import Fault, Status
 from aide_compare.changes.packages import Dpkg, NamedPackages
 from aide_compare.changes.recorded import Matcher
 from aide_compare.changes.rpm import Rpm
-from aide_compare.changes.table import Row, Table
+from aide_compare.changes.table import Row, Table, Values
 from aide_compare.changes.usr import link_here, usr_of
-from aide_compare.changes.weighing import Scales, Weighed
+from aide_compare.changes.weighing import Scales, directory_of
 from aide_compare.lines.change import Change, Counts, change_of
 from aide_compare.lines.reader import Reader
 
@@ -34,18 +34,29 @@ class Judged:
         # How many changes the lines of the list leave out, by their numbers.
         self.left_out: Counter[int] = Counter()
         self.table = Table()
-        self.table.add(self._weighed(reader))
+        self.table.add(self._values(reader))
         self.counts = self._counted()
         if not self.counts.fits(reader.counts.changes):
             raise Fault(Status.DEVICE, "the counts of the standings are not those of the changes")
 
-    def _weighed(self, reader: Reader) -> Iterator[Weighed]:
-        """Yields the changes that are not silent, and counts the others."""
+    def _values(self, reader: Reader) -> Iterator[Values]:
+        """Yields the values of the changes that are not silent, and counts the others."""
         scales = Scales()
         line_at = self.file.tell()
         for outline in reader.outlines():
             if outline.silent is None:
-                yield scales.weighed(outline, line_at)
+                known, rank = scales.weighed(outline)
+                yield (
+                    bytearray(outline.key),
+                    bytearray(directory_of(outline.key)),
+                    outline.kind,
+                    known.owners,
+                    rank,
+                    known.party,
+                    known.asked,
+                    line_at,
+                    len(outline.line),
+                )
             else:
                 self.silent[outline.silent.key] += 1
                 if outline.left_out:

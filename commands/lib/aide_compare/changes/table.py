@@ -13,7 +13,6 @@ from aide_compare.base.paths import key_of_path, path_of
 from aide_compare.base.rows import Rows
 from aide_compare.base.words import SEVERITIES, status_of_counts
 from aide_compare.changes.severity import RANKS
-from aide_compare.changes.weighing import Weighed
 from aide_compare.lines.change import Counts
 from aide_compare.lines.reader import embedded
 
@@ -26,8 +25,13 @@ create table changes (
     standing text default 'open', package text default '', is_listed integer default false,
     level integer as (rank / {RANKS})
 )"""
-INSERT = f"insert into changes ({', '.join(Weighed._fields)}) values "
-PLACES = f"({', '.join('?' for _ in Weighed._fields)})"
+# What a change is inserted with. For a bytearray and a number, but not for bytes and None, sqlite3
+# looks for no function that would adapt them, which takes as long as all else.
+Values = tuple[bytearray, bytearray, str, int, int, int, str, int, int]
+INSERT = """
+insert into changes (path_key, site, kind, owners, rank, party, asked, line_at, line_size) values """
+PLACES = "(?, ?, ?, ?, ?, ?, ?, ?, ?)"
+WIDTH = PLACES.count("?")
 # So many rows are inserted at once.
 STEP = 32
 # What people read first. Of one severity that is what is root's, then what is a service's; what the
@@ -96,13 +100,13 @@ class Table(Rows):
         super().__init__(SCHEMA)
 
     def __len__(self) -> int:
-        return int(next(self.ask("select count(*) from changes"))[0])
+        return int(next(self.ask("select coalesce(max(place), 0) from changes"))[0])
 
-    def add(self, changes: Iterable[Weighed]) -> None:
+    def add(self, changes: Iterable[Values]) -> None:
         """Takes changes in the order of paths; a Fault if they are too many."""
         values = chain.from_iterable(islice(changes, MAX_ROWS + 1))
-        while some := list(islice(values, STEP * len(Weighed._fields))):
-            self.do(INSERT + ", ".join([PLACES] * (len(some) // len(Weighed._fields))), *some)
+        while some := list(islice(values, STEP * WIDTH)):
+            self.do(INSERT + ", ".join([PLACES] * (len(some) // WIDTH)), *some)
         if len(self) > MAX_ROWS:
             text = f"there are more than {MAX_ROWS} changes that are not silent"
             raise Fault(Status.DEVICE, text)

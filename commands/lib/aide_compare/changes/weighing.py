@@ -26,24 +26,9 @@ class Known(NamedTuple):
 
     held: Held
     owners: int  # The group of its owner.
-    # The number of the user who may have many such changes; None for root.
-    party: int | None
+    party: int  # The number of the user who may have many such changes.
     # What records could say of the entry: its "content", or the "target" of a link; or nothing.
     asked: str
-
-
-class Weighed(NamedTuple):
-    """What a line says of a change: how much it matters, and where it is in its file."""
-
-    path_key: bytes
-    site: bytes  # The key of its directory.
-    kind: str
-    owners: int
-    rank: int
-    party: int | None
-    asked: str
-    line_at: int
-    line_size: int
 
 
 def directory_of(key: bytes) -> bytes:
@@ -63,10 +48,8 @@ def group_of_owner(owner: int | None) -> int:
     return 2
 
 
-def party_of(owner: int | None) -> int | None:
-    """The number of a user but root, as SQLite has numbers; UNKNOWN if it was not measured."""
-    if owner == ROOT:
-        return None
+def party_of(owner: int | None) -> int:
+    """The number of a user, as SQLite has numbers; UNKNOWN if it was not measured."""
     if owner is None:
         return UNKNOWN
     return min(owner, MAX_NUMBER)
@@ -111,17 +94,7 @@ class Scales:
         self.severity = Severity()
         self.known = ByForm(known_of)
 
-    def weighed(self, outline: Outline, line_at: int) -> Weighed:
-        """A change by its line, which begins there."""
+    def weighed(self, outline: Outline) -> tuple[Known, int]:
+        """What is known of a change by its line, and its rank."""
         known = self.known.of(outline.line)
-        return Weighed(
-            outline.key,
-            directory_of(outline.key),
-            outline.kind,
-            known.owners,
-            self.severity.rank(outline.path, known.held),
-            known.party,
-            known.asked,
-            line_at,
-            len(outline.line),
-        )
+        return known, self.severity.rank(outline.path, known.held)

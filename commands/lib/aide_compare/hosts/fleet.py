@@ -76,7 +76,7 @@ class Fleet:
 
     def add(self, host: int, outline: Outline) -> None:
         """Takes a change of the host with this number."""
-        weighed = self.scales.weighed(outline, 0)
+        known, rank = self.scales.weighed(outline)
         fields = differing(json.loads(outline.line))
         own = OWN
         if fields.get("type") == "Directory":
@@ -84,15 +84,14 @@ class Fleet:
         old = fields.get("old", {})
         new = fields.get("new", {})
         labels = {label_of(name) for name in (*old, *new)}
-        level = weighed.rank // RANKS
-        what = (outline.path.hex(), outline.kind, fields.get("type"), level, weighed.owners)
+        what = (outline.path.hex(), outline.kind, fields.get("type"), rank // RANKS, known.owners)
         row = (
             host,
             outline.key,
             digest_of(what, sorted(labels - own), without(new, own)),
             outline.kind,
-            weighed.owners,
-            weighed.rank,
+            known.owners,
+            rank,
             digest_of(without(old, own)),
             ",".join(labels & own),
             outline.line,

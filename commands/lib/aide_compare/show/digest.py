@@ -143,7 +143,7 @@ def chosen(table: Table, level: int, owners: int, limit: int, room: Room) -> lis
         if len(first) == limit:
             break
         kept = later
-        if party is None or spent[party] < room.party:
+        if not party or spent[party] < room.party:  # Root has none, and neither has a host.
             spent[party] += 1
             turns[site] += 1
             if turns[site] > room.few[level]:
