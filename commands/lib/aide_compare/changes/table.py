@@ -31,7 +31,7 @@ Values = tuple[bytearray, bytearray, str, int, int, int, str, int, int]
 INSERT = """
 insert into changes (path_key, site, kind, owners, rank, party, asked, line_at, line_size) values """
 PLACES = "(?, ?, ?, ?, ?, ?, ?, ?, ?)"
-WIDTH = PLACES.count("?")
+WIDTH = 9
 # So many rows are inserted at once.
 STEP = 32
 # What people read first. Of one severity that is what is root's, then what is a service's; what the
@@ -141,10 +141,11 @@ class Table(Rows):
     def counts(self) -> Counts:
         """The Counts of all."""
         numbers: Counter[str] = Counter()
-        question = "select standing, level, count(*) from changes group by standing, level"
-        for standing, level, size in self.ask(question):
+        kinds: Counter[str] = Counter()
+        question = "select standing, level, kind, count(*) from changes group by 1, 2, 3"
+        for standing, level, kind, size in self.ask(question):
             numbers[standing] += size
-            numbers[f"{standing}_{SEVERITIES[level]}"] = size
-        kinds = Counter(kind for (kind,) in self.ask("select distinct kind from changes"))
+            numbers[f"{standing}_{SEVERITIES[level]}"] += size
+            kinds[kind] += size
         status = status_of_counts((kinds["added"], kinds["removed"], kinds["changed"]))
         return Counts(**numbers, told_status=status)

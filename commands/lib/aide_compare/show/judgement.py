@@ -11,19 +11,24 @@ from aide_compare.show.outputs import all_lines
 
 def judge(comparison: Comparison) -> Judged | None:
     """The changes of a comparison, which gets their standings. If they cannot be judged, a doubt
-    says why, and without standings every change is an alarm. Packages' records of this machine
-    group the changes; if these cannot be read, a doubt says why, and each change stays open."""
+    says why, and without standings every change is an alarm."""
     try:
         judged = Judged(all_lines(comparison))
+        group(comparison, judged)
+        comparison.standings = judged.counts
     except Exception as error:  # A fault here must not cost the alarm.
         comparison.doubts.append(f"the changes are not judged: {why_of(error)}")
         return None
+    comparison.left_out = judged.left_out
+    return judged
+
+
+def group(comparison: Comparison, judged: Judged) -> None:
+    """Packages' records of this machine group the changes. If these cannot be read, a doubt says
+    why, and each change stays open."""
     try:
         records = records_of_host() if len(judged.table) else None
         if records:
             judged.group_by(records, TRUSTED_SIDES[1] in comparison.copies)
     except Exception as error:
         comparison.doubts.append(f"no package groups the changes: {why_of(error)}")
-    comparison.standings = judged.counts
-    comparison.left_out = judged.left_out
-    return judged
