@@ -37,7 +37,7 @@ OUTLINE = re.compile(
 KIND_END = len(b'{"kind":"add')
 AFTER_PATH = b',"summary":'
 # The numbers and the digests of a line, by the ends of the names of their attributes.
-VALUE = re.compile(rb'":(?:(?<=[et]":)[0-9]+|(?<=[0-9BRT]":)"[0-9a-f]+"|(?<=[AO]L":)"[0-9a-f]+")')
+VALUE = re.compile(rb':(?:(?<=[et]":)[0-9]+|(?<=[0-9BRT]":)"[^"]*"|(?<=[AO]L":)"[^"]*")')
 MAX_FORMS = 1 << 10
 MAX_LINE = 1 << 11
 KINDS_BY_BYTES = {kind.encode(): kind for kind in KINDS}
