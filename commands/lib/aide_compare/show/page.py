@@ -7,6 +7,7 @@ import base64
 import hashlib
 import json
 import os
+import re
 from collections.abc import Callable, Iterable, Iterator
 from html import escape
 from itertools import chain
@@ -61,6 +62,8 @@ MAX_DIGEST = 200000
 MAX_NAME = 1000
 MAX_NOTES = 20
 BESIDE = len(b"[,],\n")
+# The beginning of a line whose path is printable ASCII of which nothing is escaped, in a row too.
+PLAIN = re.compile(rb'\{"kind":"[a-z]+","path":"/[ !#-;=-\[\]-~]{,4000}"')
 # Of a value of a host.
 MAX_VALUE = 100000
 MAX_NUMBER = 1 << 53  # A script would round it.
@@ -169,9 +172,11 @@ class Rows:
         self.valued = 0
 
     def add(self, line: bytes, marks: Marks) -> None:
-        place = DECODE(line.partition(AFTER_PATH)[0].decode() + "}")[0]
-        path = shown(bytes_of(place, "path"))
-        row = b'{"kind":%b,"path":%b' % (embedded(place["kind"]), embedded(path))
+        row = line.partition(AFTER_PATH)[0]
+        if not PLAIN.fullmatch(row):
+            place = DECODE(row.decode() + "}")[0]
+            path = shown(bytes_of(place, "path"))
+            row = b'{"kind":%b,"path":%b' % (embedded(place["kind"]), embedded(path))
         row += b',"labels":%b' % self.labels.of(line) + marks.members()
         self.file.write(row + b"\n" + line)
         self.size += len(row) + BESIDE
