@@ -13,7 +13,7 @@ from aide_compare.base.ending import Fault, Status
 from aide_compare.base.words import SEVERITIES
 from aide_compare.changes.table import Marks
 from aide_compare.compare.work import failed_comparison
-from aide_compare.lines.reader import Reader
+from aide_compare.lines.reader import ENCODE, Reader
 from aide_compare.show.json_lines import added_lines
 from aide_compare.show.page import MAX_PAGE, Rows, page
 
@@ -49,7 +49,7 @@ def page_over(objects: list[Fields], limit: int = MAX_PAGE) -> bytes:
     rows = Rows()
     for fields in sorted(changes_of(objects), key=order_of):
         marks = (fields.get(name, "") for name in Marks._fields)
-        rows.add(json.dumps(fields).encode() + b"\n", Marks(*marks))
+        rows.add(ENCODE(fields).encode() + b"\n", Marks(*marks))
     database = {"side": "Old database", "name": "/a", "time": "", "sha256": "00"}
     heading: Fields = {"title": "File changes", "outcome": "", "databases": [database]}
     heading.update(counts=[["open", 1]], remarks=[], facts=[], lists=[])
