@@ -2,6 +2,7 @@
 gone with it."""
 from __future__ import annotations
 
+import functools
 import importlib.util
 import os
 import subprocess
@@ -16,6 +17,7 @@ PYTHON = "/usr/bin/python3"
 CHECKED = b"\3\0\0\0"
 
 
+@functools.lru_cache(maxsize=None)
 def tag() -> str:
     """The part of a file's name that says which Python made the byte code."""
     words = [PYTHON, "-IS", "-c", "import sys; print(sys.implementation.cache_tag)"]
@@ -39,11 +41,7 @@ def holds_code(trial: InstallTest, name: str, folder: str, private: str) -> None
     found = tree(folder)
     wanted = wanted_of(found)
     given = {path: data for path, (_, data) in files(found).items() if "__pycache__/" in path}
-    trial.assertEqual(
-        set(given),
-        set(wanted),
-        (name + ": each module, and no other, has byte code", set(given) ^ set(wanted)),
-    )
+    trial.assertEqual(given.keys() ^ wanted.keys(), set(), name + ": each module has byte code")
     trial.assertGreater(len(wanted), 60, name + ": there are modules")
     other = [path for path in given if given[path][4:16] != wanted.get(path)]
     trial.assertFalse(other, name + ": byte code has the sum of its module")

@@ -1,13 +1,16 @@
 """A copy of what is installed from, a folder to install to, and the counts."""
 from __future__ import annotations
 
+import atexit
 import hashlib
 import os
 import shutil
 import stat
 import subprocess
+import tempfile
 from typing import Any
 
+from tests.commands.sandbox import compiled_commands
 from tests.lib.answer import Answer
 from tests.lib.program_test import ScratchTest
 from tests.lib.programs import find_program, lines_program_of
@@ -21,6 +24,10 @@ NOBODY = 65534
 # What the scripts may need: the base system without a compiler, git, dpkg-deb or rt.
 NEEDED = """[ awk basename cat chmod cmp comm cp cut date dirname env find grep gzip head id ln ls md5sum mkdir mktemp mv printf
 python3 readlink rm rmdir sed sh sha256sum sort tail tar touch tr uniq wc xargs""".split()
+
+
+# The directory of what is installed once.
+FIRST: list[str] = []
 
 
 class InstallTest(ScratchTest):
@@ -58,12 +65,15 @@ class InstallTest(ScratchTest):
         return self.write(program + "-v3", data, 0o755)
 
     def copy(self, name: str) -> str:
-        """A copy of the parts of the repository that are installed or that install."""
+        """A copy of the parts of the repository that are installed or that install. The commands
+        have byte code, since each installation loads them for the completions."""
         target = self.path(name)
         for part in PARTS:
             source, copied = os.path.join(TOP, part), os.path.join(target, part)
             os.makedirs(os.path.dirname(copied), exist_ok=True)
-            if os.path.isdir(source):
+            if part == "commands":
+                shutil.copytree(compiled_commands(), copied)
+            elif os.path.isdir(source):
                 shutil.copytree(source, copied, ignore=shutil.ignore_patterns("__pycache__"))
             else:
                 shutil.copy2(source, copied)
@@ -90,10 +100,14 @@ class InstallTest(ScratchTest):
         return self.run_words([*shell, script, *words], cwd=self.root, **more)
 
     def first(self, *names: str) -> str:
-        """A path of what is installed below the usual prefix, which it installs if need be."""
-        if not os.path.isdir(self.path("first")):
-            self.installed("first")
-        return self.path("first", "usr", "local", *names)
+        """A path of what is installed below the usual prefix. It is made once for the tests of this
+        process, which only read it."""
+        if not FIRST:
+            FIRST.append(tempfile.mkdtemp(prefix="aide-test-first-"))
+            atexit.register(shutil.rmtree, FIRST[0], True)
+            os.chmod(FIRST[0], 0o755)
+            self.installed(FIRST[0])
+        return os.path.join(FIRST[0], "usr", "local", *names)
 
     def installed(self, name: str, *words: str) -> dict[str, Any]:
         """Installs the program below a new folder, and gives what lies there."""

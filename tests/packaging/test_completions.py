@@ -2,9 +2,11 @@
 shells read them."""
 from __future__ import annotations
 
+import functools
 import os
 import re
 
+from tests.lib.answer import run
 from tests.lib.program_test import slow
 from tests.lib.scratch import read
 from tests.oracle.configuration import BOOL_OPTIONS, LEVELS, SET_OPTIONS
@@ -91,7 +93,13 @@ def options_of_program() -> list[str]:
 
 
 def help_of(trial: InstallTest, words: str) -> str:
-    return trial.run_words([trial.first("bin/aide-compare"), *words.split(), "--help"]).output_text
+    return printed_help(trial.first("bin/aide-compare"), words)
+
+
+@functools.lru_cache(maxsize=None)
+def printed_help(command: str, words: str) -> str:
+    """The help of a subcommand, which each test of this process asks for."""
+    return run(command, [*words.split(), "--help"]).output_text
 
 
 def named_in(text: str) -> set[str]:

@@ -62,7 +62,7 @@ def wanted_modes(source: str) -> dict[str, int]:
     for path, (mode, _) in files(tree(source)).items():
         mode = 0o755 if mode & 0o100 else 0o644
         target = target_of(path)
-        if target is not None:
+        if target is not None and not path.endswith(".pyc"):
             wanted[target] = mode
     return wanted
 
@@ -108,8 +108,7 @@ class InstallingTest(InstallTest):
 
     def test_shells(self) -> None:
         """Every shell installs the same files, whatever permissions the user gives to new ones."""
-        self.first()
-        first = tree(self.path("first"))
+        first = tree(self.first("../.."))
         for words in (["dash"], ["bash"], ["busybox", "sh"]):
             with self.subTest(words[0]):
                 self.needs(words[0])
