@@ -17,11 +17,9 @@ from typing import Any, Optional, Union
 
 from tests.lib.answer import Answer
 from tests.lib.apart import has_own_mounts
-from tests.lib.byte_code import compile_modules
-from tests.lib.copies import copy_directory
+from tests.lib.copies import COMPILED, copy_commands
 from tests.lib.program_test import ScratchTest
 from tests.lib.programs import find_program, lines_program_of
-from tests.lib.scratch import TOP
 from tests.lib.terminal import Terminal
 
 # Only for a tool that hangs: on a machine with much other work a run may take minutes.
@@ -67,7 +65,7 @@ class Replacing:
         return spec
 
 sys.meta_path.insert(0, Replacing)
-exec(compile(text_of("/front"), __file__, "exec"))
+%sexec(compile(text_of("/front"), __file__, "exec"))
 """
 
 
@@ -98,12 +96,13 @@ def sha256(text: bytes) -> str:
 
 @functools.lru_cache(maxsize=None)
 def compiled_commands() -> str:
-    """A copy of the commands with their byte code, made once for the tests of this process."""
+    """A copy of the commands with their byte code: that of the gate, or one that is made once for
+    the tests of this process."""
+    if os.environ.get(COMPILED):
+        return os.environ[COMPILED]
     directory = tempfile.mkdtemp(prefix="aide-compare-commands-")
     atexit.register(shutil.rmtree, directory, True)
-    for name in ("bin", "lib", "share"):
-        copy_directory(os.path.join(TOP, "commands", name), os.path.join(directory, name))
-    compile_modules(os.path.join(directory, "lib"))
+    copy_commands(directory)
     return directory
 
 
@@ -126,9 +125,10 @@ class CommandTest(ScratchTest):
         for path in (self.program, self.lines_program):
             os.chmod(path, 0o755)
         for name in ("bin", "lib", "share"):
-            shutil.copytree(os.path.join(compiled_commands(), name), self.path(name))
+            source = os.path.join(compiled_commands(), name)
+            shutil.copytree(source, self.path(name), copy_function=os.link)
         os.rename(self.path("bin/aide-compare"), self.path("front"))
-        self.write("bin/aide-compare", FRONT, 0o755)
+        self.write("bin/aide-compare", FRONT % "", 0o755)
         os.symlink("aide-compare", self.path("bin/check_aide_compare"))
         self.replaced: dict[str, str] = {}
         # The records of packages and the administrator's directory are those of the test, never

@@ -7,7 +7,7 @@ import shutil
 import subprocess
 
 from tests.lib.program_test import slow
-from tests.lib.copies import copy_sources
+from tests.lib.copies import COMPILED, copy_sources
 from tests.lib.programs import VARIABLE
 
 from .sandbox import AS_NOBODY, PYTHON, CommandTest, after
@@ -37,7 +37,7 @@ class OwnUserTest(CommandTest):
         done = subprocess.run(
             after(AS_NOBODY, words),
             cwd=directory,
-            env={**os.environ, VARIABLE: program, "TMPDIR": self.room},
+            env={**os.environ, VARIABLE: program, "TMPDIR": self.room, COMPILED: ""},
             stdin=subprocess.DEVNULL,
             stdout=subprocess.PIPE,
             stderr=subprocess.STDOUT,

@@ -24,10 +24,12 @@ class Scratch:
         return os.path.join(self.root, *names)
 
     def write(self, name: str, text: str | bytes, mode: int = 0o644) -> str:
-        """Writes a file. A link that a trial has left there is not followed: root would write a
-        file of the machine."""
+        """Writes a file. A link of either sort that lies there is not followed: root would write a
+        file of the machine, or one that other tests have too."""
         path = self.path(name)
         os.makedirs(os.path.dirname(path), exist_ok=True)
+        if os.path.isfile(path) and os.lstat(path).st_nlink > 1:
+            os.remove(path)
         with open(
             path, "wb", opener=lambda path, flags: os.open(path, flags | os.O_NOFOLLOW, 0o644)
         ) as file:

@@ -15,6 +15,7 @@ import tempfile
 
 from tests.lib import apart
 from tests.lib.answer import Answer
+from tests.lib.copies import compile_modules
 from tests.lib.program_test import ScratchTest
 from tests.lib.programs import find_program, lines_program_of
 from tests.lib.scratch import TOP
@@ -26,6 +27,7 @@ DIRECTORIES = (
     "/var/lib/aide-compare /var/lib/dpkg /var/lib/prometheus /var/log/aide-compare /var/tmp"
 ).split()
 NAMED = re.compile(r"(?<![\w/])(%s)(?![\w.-])" % "|".join(DIRECTORIES))
+LIBRARY = "lib/aide-compare/python"
 NOBODY = 65534
 SECONDS = 600
 HEAD = "@@begin_db\n@@db_spec name attr perm size\n"
@@ -48,12 +50,13 @@ exec cat "ROOT/remote/$host/$file"
 
 @functools.lru_cache(maxsize=None)
 def installed(program: str) -> str:
-    """A directory into which packaging/install has put everything, made once for the tests of this
-    process."""
+    """A directory into which packaging/install has put everything, and the byte code, made once for
+    the tests of this process."""
     directory = tempfile.mkdtemp(prefix="aide-compare-installed-")
     atexit.register(shutil.rmtree, directory, True)
     words = [os.path.join(TOP, "packaging", "install"), "--destdir", directory]
     subprocess.run([*words, "--program", program], check=True, stdout=subprocess.DEVNULL)
+    compile_modules(os.path.join(directory, "usr/local", LIBRARY))
     return os.path.join(directory, "usr", "local")
 
 

@@ -10,7 +10,9 @@ import os
 import re
 import subprocess
 import sys
+import tempfile
 
+from tests.lib.copies import COMPILED, copy_commands
 from tests.lib.programs import VARIABLE
 from tests.lib.scratch import TOP
 from tests.lib.tally import Tally, side_by_side
@@ -86,5 +88,8 @@ def run_all(names: list[str], tally: Tally, program: str = "", is_quick: bool = 
     if is_quick:
         environment["AIDE_QUICK"] = "1"
     jobs = len(os.sched_getaffinity(0))
-    for done in side_by_side(jobs, lambda name: run(name, environment), names):
-        judge(*done, tally)
+    with tempfile.TemporaryDirectory(prefix="aide-compare-commands-") as directory:
+        copy_commands(directory)
+        environment[COMPILED] = directory
+        for done in side_by_side(jobs, lambda name: run(name, environment), names):
+            judge(*done, tally)
