@@ -10,6 +10,7 @@ from typing import Any, Optional
 from tests.lib import preload
 from tests.lib.answer import Answer
 
+from .forked import Forked
 from .sandbox import CommandTest, NEW, OLD, Texts, sha256
 
 TOOL = "aide-compare accept"
@@ -81,13 +82,10 @@ class AcceptingTest(CommandTest):
         self.assertEqual(contents(self), before, (digest, words))
 
 
-def library(sandbox: CommandTest) -> dict[str, str] | None:
-    """The settings that load the library, or None if it cannot be built, which is a failure."""
-    path, faults = preload.built("at_call.c", os.fsencode(sandbox.path("stubs")))
-    sandbox.holds("the library that acts at a call is built", path, faults)
-    return {"LD_PRELOAD": os.fsdecode(path)} if path else None
+def forked(sandbox: CommandTest) -> Forked:
+    """The command with the library that acts at a call."""
+    return Forked(sandbox, TOOL, LD_PRELOAD=preload.built("at_call.c", sandbox.path("stubs")))
 
 
-def accept_at(sandbox: CommandTest, settings: dict[str, str], **more: object) -> Answer:
-    environment = {**settings, **{key: str(value) for key, value in more.items()}}
-    return accept(sandbox, DIGEST, environment=environment)
+def accept_at(command: Forked, **settings: object) -> Answer:
+    return command.call("--sha256", DIGEST, *FILES, **settings)

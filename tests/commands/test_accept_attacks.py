@@ -12,7 +12,8 @@ from typing import Any
 from tests.lib.answer import Answer
 from tests.lib.program_test import slow
 
-from .accepting import DIGEST, TOOL, AcceptingTest, accept_at, contents, fresh, library
+from .accepting import DIGEST, TOOL, AcceptingTest, accept_at, contents, forked, fresh
+from .forked import Forked
 from .sandbox import CommandTest, NEW, NOBODY, OLD, sha256
 
 MOST_CALLS = 250
@@ -46,11 +47,6 @@ def put(sandbox: CommandTest, kind: str) -> tuple[str, str]:
     return sandbox.path("theirs/" + one), sandbox.path("theirs/" + other)
 
 
-def call(sandbox: CommandTest, **environment: object) -> Answer:
-    settings = {key: str(value) for key, value in environment.items()}
-    return sandbox.call(TOOL, "--sha256", DIGEST, "new", BASELINE, environment=settings)
-
-
 def roots(sandbox: CommandTest) -> dict[str, tuple[int, int, int, bytes]]:
     """All that is in root's folder, and the folder: owner, mode, and the bytes of files."""
     found = {}
@@ -81,14 +77,17 @@ def harm(sandbox: CommandTest, before: dict[str, Any]) -> list[object]:
 
 @slow
 class AcceptAttacksTest(AcceptingTest):
-    def at_call(self, kind: str, **options: Any) -> tuple[Answer, list[object], bool]:
+    def at_call(
+        self, command: Forked, kind: str, **options: Any
+    ) -> tuple[Answer, list[object], bool]:
         """Two names change places before one call of the command: its answer, what is harmed, and
         whether they did."""
         one, other = put(self, kind)
         before, mark = roots(self), self.path("marks/swapped")
         if os.path.isdir(mark):
             os.rmdir(mark)
-        done = call(self, **options, AT_ONE=one, AT_OTHER=other, AT_MARK=mark)
+        words = ("--sha256", DIGEST, "new", BASELINE)
+        done = command.call(*words, **options, AT_ONE=one, AT_OTHER=other, AT_MARK=mark)
         return done, harm(self, before), os.path.isdir(mark)
 
     def at_all_calls(
@@ -101,13 +100,13 @@ class AcceptAttacksTest(AcceptingTest):
         the statuses."""
         os.makedirs(self.path("marks"), exist_ok=True)
         os.chmod(self.path("marks"), 0o777)
-        settings, number, swapped = library(self) or {}, 0, True
+        command, number, swapped = forked(self), 0, True
         statuses: list[int] = []
-        while settings and swapped and number < MOST_CALLS:
+        while swapped and number < MOST_CALLS:
             number += 1
             for way in ways:
                 options = {"AT_NUMBER": number, "AT_WAY": way}
-                done, found, swapped = self.at_call(kind, **settings, **options)
+                done, found, swapped = self.at_call(command, kind, **options)
                 self.assertEqual(found, [], (kind, options, done))
                 self.assertIn(done.status, allowed if swapped else (0,), (kind, options, done))
                 if swapped:
@@ -138,7 +137,7 @@ class AcceptAttacksTest(AcceptingTest):
                     os.remove(path)
                 make(self.path("root/secret"), path)
                 before = roots(self)
-                done = call(self)
+                done = self.call(TOOL, "--sha256", DIGEST, "new", BASELINE)
                 self.assertIn(done.status, (0, 18), (make, name, done))
                 self.assertEqual(roots(self), before, (make, name, done))
                 self.assertEqual(self.read("root/secret"), SECRET, (make, name))
@@ -146,12 +145,12 @@ class AcceptAttacksTest(AcceptingTest):
     def test_swapped_database(self) -> None:
         """NEW changes its place with another database while it is read: what is accepted has the
         digest."""
-        settings, ends, name = library(self), set(), self.path("base/aide.db.new")
-        for number in range(1, 40) if settings else ():
+        command, ends, name = forked(self), set(), self.path("base/aide.db.new")
+        for number in range(1, 40):
             fresh(self)
             other = self.write("base/other", gzip.compress(OLD + b"more\n"))
             options = {"AT_NUMBER": number, "AT_WAY": FOR_GOOD, "AT_ONE": name, "AT_OTHER": other}
-            done = accept_at(self, settings or {}, **options)
+            done = accept_at(command, **options)
             ends.add(done.status)
             self.assertEqual(contents(self)[0], NEW if done.status == 0 else OLD, (number, done))
         self.assertEqual(ends, {0, 24}, "the swapped database is accepted or refused")

@@ -6,7 +6,8 @@ import os
 
 from tests.lib.program_test import slow
 
-from .accepting import DONE, OLDER, AcceptingTest, accept_at, contents, fresh, library
+from .accepting import DONE, OLDER, AcceptingTest, accept_at, contents, forked, fresh
+from .forked import Forked
 from .sandbox import NEW, NOBODY, OLD
 
 KILLED = 1
@@ -19,10 +20,10 @@ class AcceptKillsTest(AcceptingTest):
     def test_order(self) -> None:
         """The new file is on the disk before it has a name, and the folder after the last name has
         changed."""
-        settings = library(self) or {}
-        for old in (0, 1) if settings else ():
+        command = forked(self)
+        for old in (0, 1):
             fresh(self)
-            done = accept_at(self, settings, AT_NOTES=1, AT_OLD=old)
+            done = accept_at(command, AT_NOTES=1, AT_OLD=old)
             self.assertEqual((done.status, contents(self)), (0, DONE), done)
             calls = done.output.decode().split()
             self.assertIn("fsync", calls, f"old {old}")
@@ -41,23 +42,22 @@ class AcceptKillsTest(AcceptingTest):
         self.kill_everywhere(NOBODY)
 
     def kill_everywhere(self, owner: int | None, old: int = 0) -> None:
-        settings = library(self)
+        command = forked(self)
         os.mkdir(self.path("marks"))
         os.chmod(self.path("marks"), 0o777)
         number = 1
-        while settings and number < MOST_CALLS:
+        while number < MOST_CALLS:
             fresh(self, owner)
-            options = {"AT_NUMBER": number, "AT_OLD": old}
-            if not self.is_killed(settings, options):
+            if not self.is_killed(command, {"AT_NUMBER": number, "AT_OLD": old}):
                 break
             number += 1
         self.assertTrue(12 < number < MOST_CALLS, number)
 
-    def is_killed(self, settings: dict[str, str], options: dict[str, int]) -> bool:
+    def is_killed(self, command: Forked, options: dict[str, int]) -> bool:
         """Whether the command was killed at a call, and the baseline is then whole. The next run is
         right."""
         mark = self.path("marks/%(AT_NUMBER)d" % options)
-        done = accept_at(self, settings, AT_WAY=KILLED, AT_MARK=mark, **options)
+        done = accept_at(command, AT_WAY=KILLED, AT_MARK=mark, **options)
         if not os.path.isdir(mark):
             return False
         self.assertEqual(done.status, -9, (options, done))
@@ -67,6 +67,6 @@ class AcceptKillsTest(AcceptingTest):
         # If the former one is gone, the next run finds it, as is seen below.
         self.assertTrue(former == OLDER or (baseline, former) == (NEW, OLD), (options, former))
         self.assertEqual(os.stat(self.path("base/aide.db")).st_mode & 0o777, 0o600, options)
-        again = accept_at(self, settings, AT_NUMBER=0)
+        again = accept_at(command, AT_NUMBER=0)
         self.assertEqual((again.status, contents(self)), (0, DONE), (options, again))
         return True

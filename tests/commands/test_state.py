@@ -8,6 +8,7 @@ import sys
 import time
 from typing import Any
 
+from .forked import Forked
 from .sandbox import AS_NOBODY, NOBODY, UMASK
 from .states import NOTHING, StateTest
 
@@ -148,12 +149,14 @@ class StatusTest(StateTest):
         folder, prey = self.path("exporter"), self.write("prey", "of root\n", 0o600)
         os.mkdir(folder)
         os.chown(folder, NOBODY, NOBODY)
+        command = Forked(self, METRICS)
         words = [sys.executable, "-c", LINKS, folder, prey]
         attacker = subprocess.Popen(words, stdout=subprocess.PIPE)
         try:
             assert attacker.stdout
             attacker.stdout.readline()
-            statuses = {self.ask(METRICS, "exporter/aide.prom").status for _ in range(200)}
+            written = ("--state", "state", "exporter/aide.prom")
+            statuses = {command.call(*written).status for _ in range(200)}
         finally:
             attacker.kill()
             attacker.communicate()

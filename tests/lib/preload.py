@@ -4,52 +4,38 @@ from __future__ import annotations
 
 import os
 import shutil
-import subprocess
 import struct
 import threading
 from typing import Any
 
 from tests.lib.answer import Answer, run
 from tests.lib.program_test import ProgramTest, ScratchTest
+from tools.source.checker import kit
 
 FOLDER = os.path.join(os.path.dirname(os.path.abspath(__file__)), "..", "program")
 NAMES = ["cc", "gcc", "clang"]
 FLAGS = ["-O1", "-shared", "-fPIC", "-nostdlib"]
 
 
-def compilers() -> list[list[str]]:
-    """The commands that may build a library: the machine's own, and that of the toolchain, with its
-    linker."""
-    paths = [shutil.which(name) for name in NAMES]
-    found = [[path] for path in paths if path]
-    rt = shutil.which("rt")
-    if rt:
-        tools = os.path.join(
-            os.path.dirname(os.path.dirname(os.path.realpath(rt))), "toolchain", "bin"
-        )
-        clang, linker = os.path.join(tools, "clang"), os.path.join(tools, "ld.lld")
-        if os.access(clang, os.X_OK) and os.access(linker, os.X_OK):
-            found.append([clang, "--ld-path=" + linker])
-    return found
+def compiler() -> list[str]:
+    """The command that builds a library: the machine's own compiler, or that of the toolchain with
+    its linker."""
+    for name in NAMES:
+        path = shutil.which(name)
+        if path:
+            return [path]
+    tools = os.path.join(kit(), "toolchain", "bin")
+    return [os.path.join(tools, "clang"), "--ld-path=" + os.path.join(tools, "ld.lld")]
 
 
-def built(name: str, folder: bytes) -> tuple[bytes | None, list[str]]:
-    """Builds a library of the trials of the program: its path, or nothing and what every compiler
-    has against it."""
-    library, faults = os.path.join(folder, os.fsencode(name) + b".so"), []
-    for compiler in compilers():
-        done = subprocess.run(
-            compiler + FLAGS + ["-o", library, os.path.join(FOLDER, name)],
-            stdin=subprocess.DEVNULL,
-            stdout=subprocess.DEVNULL,
-            stderr=subprocess.PIPE,
-        )
-        if done.returncode == 0:
-            return library, []
-        faults.append("%s: %s" % (compiler[0], done.stderr.decode("utf-8", "replace")))
-    return None, faults or [
-        "no C compiler is here, neither one of %s nor that of the toolchain" % ", ".join(NAMES)
-    ]
+def built(name: str, folder: str) -> str:
+    """Builds a library of the trials: its path."""
+    library = os.path.join(folder, name + ".so")
+    program, *words = compiler()
+    answer = run(program, [*words, *FLAGS, "-o", library, os.path.join(FOLDER, name)])
+    if answer.status:
+        raise AssertionError(f"{name} was not built: {answer}")
+    return library
 
 
 class PreloadTest(ScratchTest, ProgramTest):
@@ -60,10 +46,7 @@ class PreloadTest(ScratchTest, ProgramTest):
     def setUp(self) -> None:
         super().setUp()
         self.directory = os.fsencode(self.root)
-        library, faults = built(self.source, self.directory)
-        if library is None:
-            self.fail("\n".join(faults))
-        self.library = library
+        self.library = os.fsencode(built(self.source, self.root))
 
 
 def run_with(

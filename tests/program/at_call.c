@@ -1,9 +1,9 @@
 /* Loaded before the C library (LD_PRELOAD), this lets something happen right before one call of a command that opens,
    makes, changes, names or removes a file: before the call with the number AT_NUMBER, counted from the first that opens
    a folder by O_PATH. AT_WAY says what happens: the process is killed, or the names AT_ONE and AT_OTHER change places,
-   for that call or for good. Only calls of the first process are counted. AT_OLD makes the file system an old one, without files that have no name and without an
-   exchange of names. AT_NOTES is a descriptor that gets the name of each call that is counted. AT_MARK is a folder that
-   is made when it happens. */
+   for that call or for good. Only calls of the first process are counted, or of one that calls `begin`. AT_OLD makes the
+   file system an old one, without files that have no name and without an exchange of names. AT_NOTES is a descriptor that
+   gets the name of each call that is counted. AT_MARK is a folder that is made when it happens. */
 #include "preload.h"
 
 enum way { KILLED = 1, EXCHANGED_FOR_THE_CALL, EXCHANGED_FOR_GOOD };
@@ -25,8 +25,9 @@ extern unsigned long strlen(const char *);
 static long chosen, way, is_old, notes, count, begun, first_process;
 static const char *one, *other, *mark;
 
-__attribute__((constructor)) static void begin(void)
+__attribute__((constructor)) void begin(void)
 {
+    count = begun = 0;
     chosen = number("AT_NUMBER");
     way = number("AT_WAY");
     is_old = number("AT_OLD");

@@ -1,25 +1,18 @@
 """Makes each allocation of the built program fail in turn, over whole sessions.
 
-The program asks the C library for memory, by malloc and realloc. A library that is loaded before
-the C library (fail_allocation.c) refuses the n-th of these calls, for every n until the session
-asks for no more: only the n-th, and the n-th with all later ones. After each refusal the program
-has to end with status 22, the one line `aide: out of memory` and no output. A session without a
-refusal answers what the definitions say.
+A library that is loaded before the C library (fail_allocation.c) refuses the n-th malloc or
+realloc, for every n until the session asks for no more: only the n-th, and the n-th with all later
+ones. After each refusal the program has to end with status 22, the one line `aide: out of memory`
+and no output. Without a refusal it answers what the definitions say.
 
-Two kinds of calls may be refused without an effect, so that the answer is the whole one: those of
-the C library itself, and those of a command line that is not understood. There the parser looks for
-names that are close, which are never printed. The program of lines first asks a parser that knows a
-trusted pair and no --config-check. The sessions have long arguments, paths and configurations, which
-reach each allocation of the program, or are random.
+Two kinds of calls may be refused without an effect: those of the C library itself, and those of a
+command line that is not understood. There the parser looks for names that are close, which are
+never printed. The program of lines first asks a parser that knows a trusted pair and no
+--config-check.
 
-The same is done with the program that writes lines of JSON, and with random sessions of four
-databases, of which two are trusted. Another
-program, crates/aide_in_memory, runs sessions over files in memory. Each call that is refused memory
-has to say so, and is made once more. So with one refusal the program has to print what is stored
-beside it; with all later ones refused too it has to end with status 22 behind a front of that.
-
-The library is built by a C compiler of the machine or by that of the toolchain; with neither the
-test fails.
+Another program, crates/aide_in_memory, runs sessions over files in memory. Each call that is
+refused memory has to say so, and is made once more. So with one refusal the program has to print
+what is stored beside it; with all later ones refused too it ends with 22 behind a front of that.
 """
 from __future__ import annotations
 

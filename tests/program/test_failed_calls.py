@@ -7,9 +7,6 @@ program ignores, or a call that it makes once more, shows in its answer. The rig
 run is exact: which file could not be opened, in which line of which database reading failed, and
 which bytes had gone out before. An undisturbed run closes all that it opens. The program that writes
 lines of JSON is tried over a trusted pair too.
-
-The library is built by a C compiler of the machine or by that of the toolchain; with neither the
-test fails.
 """
 from __future__ import annotations
 
