@@ -99,10 +99,18 @@ def upgrade() -> Host:
 @slow
 @unittest.skipUnless(CHROMIUM, "not installed: chromium")
 class BrowserTest(CommandTest):
+    """All have one browser: a page of the command keeps nothing in it."""
+
+    browser: Browser
+
+    @classmethod
+    def setUpClass(cls) -> None:
+        cls.browser = Browser()
+        cls.addClassCleanup(cls.browser.close)
+
     def setUp(self) -> None:
         super().setUp()
-        self.browser = Browser()
-        self.addCleanup(self.browser.close)
+        self.browser.ask("Emulation.clearDeviceMetricsOverride")
 
     def tearDown(self) -> None:
         self.assertEqual(self.browser.faults, [], "errors, and breaches of the content policy")
