@@ -62,7 +62,6 @@ class AcceptingTest(CommandTest):
         fresh(self)
 
     def put(self, old: bytes, new: bytes) -> None:
-        """Other databases in the places of both."""
         fresh(self)
         self.write("base/aide.db", old, 0o600)
         self.write("base/aide.db.new", new, 0o600)

@@ -118,7 +118,6 @@ class Package:
         self.state = state
 
     def status(self) -> bytes:
-        """Its paragraph."""
         text = f"Package: {self.name}\nStatus: {self.state}\nArchitecture: amd64\n"
         text += f"Version: {self.version}\n"
         lines = b""
@@ -127,12 +126,10 @@ class Package:
         return text.encode() + (b"Conffiles:\n" + lines if lines else b"")
 
     def paths(self) -> bytes:
-        """The text of its list."""
         paths = sorted([b"/.", *self.files, *self.conffiles, *self.listed])
         return b"".join(path + b"\n" for path in paths)
 
     def sums(self) -> bytes:
-        """The text of its digests."""
         text = b""
         for path, content in self.files.items():
             text += b"%s  %s\n" % (hashlib.md5(content).hexdigest().encode(), path[1:])
@@ -150,13 +147,11 @@ class Host:
             self.both(lambda night: night.directory(path))
 
     def both(self, work: Callable[[Night], object]) -> Host:
-        """Does something in both nights."""
         work(self.old)
         work(self.new)
         return self
 
     def records(self) -> dict[str, bytes]:
-        """dpkg's records, by their names."""
         files = {"status": b"".join(package.status() + b"\n" for package in self.packages)}
         for package in self.packages:
             files[f"info/{package.name}.list"] = package.paths()

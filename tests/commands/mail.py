@@ -97,8 +97,6 @@ def logging(sandbox: ScratchTest, name: str = "log") -> Iterator[list[bytes]]:
 
 
 class MailTest(CommandTest):
-    """A test with such a sendmail."""
-
     def setUp(self) -> None:
         super().setUp()
         prepare(self)

@@ -227,7 +227,6 @@ def make_keys(sandbox: CommandTest) -> None:
 
 
 def stop_agents(sandbox: CommandTest) -> None:
-    """Ends what gpg has started."""
     for key in ("gpg", "other"):
         words = ["gpgconf", "--homedir", sandbox.path(key), "--kill", "all"]
         subprocess.run(words, check=False, capture_output=True)

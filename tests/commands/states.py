@@ -27,8 +27,6 @@ def state_text(**values: Any) -> bytes:
 
 
 class StateTest(CommandTest):
-    """A test over a state file."""
-
     def put(self, age: int = 60, **more: Any) -> str:
         """Writes a state of so many seconds ago. Returns its path."""
         now = int(time.time())

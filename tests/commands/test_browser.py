@@ -63,7 +63,6 @@ ADDED = (
 
 
 def number_of(selector: str) -> str:
-    """How many elements a selector finds."""
     return f"document.querySelectorAll({json.dumps(selector)}).length"
 
 
@@ -149,7 +148,6 @@ class BrowserTest(CommandTest):
         self.browser.value(f"window.dispatchEvent(new Event('{event}'))")
 
     def total(self) -> int:
-        """How many entries the page has found."""
         return int(self.browser.value(FOUND).split()[0])
 
     def test_folders(self) -> None:

@@ -19,7 +19,6 @@ OLD = (
 
 
 def with_column(text: bytes, name: bytes) -> bytes:
-    """A database with one more column."""
     text = text.replace(b"size\n", b"size " + name + b"\n")
     return text.replace(b"4096\n", b"4096 1\n").replace(b" 5\n", b" 5 1\n")
 

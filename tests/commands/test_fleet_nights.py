@@ -55,7 +55,6 @@ class Fleet(Hosts):
         return self.number
 
     def send(self, upgraded: tuple[str, ...], marks: dict[str, Files] | None = None) -> None:
-        """What all hosts send the next night."""
         for host in NAMES:
             more = (marks or {}).get(host)
             self.put(host, database(self.next_number(), host in upgraded, more), None)

@@ -35,7 +35,6 @@ def columns() -> bytes:
 
 
 def changes(count: int) -> bytes:
-    """A database of many small entries."""
     lines = (b"/n%07d 36 104755 %d\n" % (number, number) for number in range(count))
     return b"@@begin_db\n@@db_spec name attr perm size\n" + b"".join(lines) + END
 

@@ -230,8 +230,6 @@ class RecordedTest(CommandTest):
 
 
 class MailTest(mail.MailTest):
-    """What a mail says of packages."""
-
     def lines(self, host: Host) -> list[str]:
         host.write(self)
         mail.call(self, "host-old.db", "host-new.db")

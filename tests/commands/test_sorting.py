@@ -71,7 +71,6 @@ class SortingTest(CommandTest):
     def sort(
         self, text: bytes, *words: str, before: list[str] | None = None, **more: Any
     ) -> Answer:
-        """What the command answers to a text."""
         more = {"stdout": subprocess.PIPE, "env": self.surroundings(), **more}
         command = [*(before or []), *self.command("aide-compare sort", *words)]
         done = subprocess.run(command, input=text, stderr=subprocess.PIPE, timeout=600, **more)

@@ -63,7 +63,6 @@ def upgraded(with_marks: bool = True) -> tuple[Host, Host]:
 
 
 def put(sandbox: CommandTest, with_marks: bool = True) -> tuple[Host, Host]:
-    """Writes all four databases."""
     host, canary = upgraded(with_marks)
     host.write(sandbox)
     sandbox.write("canary-old.db", canary.old.database())

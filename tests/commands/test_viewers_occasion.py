@@ -39,7 +39,6 @@ def changed(fields: Fields, **values: object) -> Fields:
 
 class OccasionTest(CommandTest):
     def compared(self, *words: str) -> list[Fields]:
-        """What json says of both databases."""
         answer = self.call("aide-compare json", *words, OLD, NEW)
         self.assertEqual((answer.status, answer.errors), (7, b""), answer)
         return objects_of(answer)
@@ -50,7 +49,6 @@ class OccasionTest(CommandTest):
         return proved_lines(os.fsencode(self.program), text)
 
     def put_pair(self, columns: str, old: str, new: str) -> tuple[str, str]:
-        """Two databases with these columns and lines."""
         text = f"@@begin_db\n@@db_spec name {columns}\n%s\n@@end_db\n"
         return self.write("one.db", text % old), self.write("other.db", text % new)
 

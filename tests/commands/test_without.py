@@ -19,7 +19,6 @@ LOGS = b"# Logs\n\n  /var/log/**  \n/etc/*.bak\n"
 
 
 def files(sizes: dict[bytes, int]) -> bytes:
-    """A database of files with these sizes."""
     return HEAD + b"".join(b"%s 36 100644 %d\n" % pair for pair in sizes.items()) + END
 
 

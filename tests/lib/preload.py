@@ -39,8 +39,6 @@ def built(name: str, folder: str) -> str:
 
 
 class PreloadTest(ScratchTest, ProgramTest):
-    """A test with one of these libraries."""
-
     source = ""
 
     def setUp(self) -> None:

@@ -52,10 +52,7 @@ class ScratchTest(Scratch, StatedTest):
 
 
 class AnswerTest(StatedTest):
-    """A test of answers."""
-
     def add(self, label: str, faults: Sequence[str]) -> None:
-        """No fault was found."""
         with self.subTest(label):
             if faults:
                 self.fail("\n".join(faults))

@@ -167,7 +167,6 @@ class Machine:
         return children.read_text().split(" ")[0] if children.exists() else ""
 
     def inside(self, *words: str, text: bytes = b"") -> subprocess.CompletedProcess[bytes]:
-        """Runs a command on the booted machine."""
         environment = {"PATH": "/usr/local/sbin:/usr/local/bin:/usr/sbin:/usr/bin:/sbin:/bin"}
         environment.update(HOME="/root", LC_ALL="C.UTF-8", DEBIAN_FRONTEND="noninteractive")
         enter = ["nsenter", "-t", self._leader(), "-a", "--"]

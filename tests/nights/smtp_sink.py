@@ -7,8 +7,6 @@ FROM = b"From root@localhost Sat Nov 28 00:00:00 2026\n"
 
 
 class Session(socketserver.StreamRequestHandler):
-    """One client, until it goes."""
-
     def handle(self) -> None:
         self.wfile.write(b"220 sink\r\n")
         text: list[bytes] = []
@@ -30,6 +28,5 @@ def keep(text: list[bytes]) -> None:
 
 
 def serve() -> None:
-    """Serves clients until somebody ends it."""
     socketserver.ThreadingTCPServer.allow_reuse_address = True
     socketserver.ThreadingTCPServer(("127.0.0.1", 2525), Session).serve_forever()

@@ -48,7 +48,6 @@ def agree(first: Entry, second: Entry) -> bool:
 
 
 def both_agree(first: Entry | None, second: Entry | None) -> bool:
-    """Whether both entries are there and agree."""
     return first is not None and second is not None and agree(first, second)
 
 

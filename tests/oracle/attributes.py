@@ -9,8 +9,6 @@ Groups = Mapping[str, "frozenset[str]"]
 
 
 class Attribute(NamedTuple):
-    """What is known of an attribute."""
-
     name: str
     detail: str
     column: str

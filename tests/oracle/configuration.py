@@ -212,7 +212,6 @@ def read_directive(line: bytes, used: bool, around: list[Around], marks: list[Ma
 
 
 def path_of_url(url: bytes) -> bytes:
-    """The path of a database."""
     if url == b"stdin" or url.startswith((b"fd:", b"http:", b"https:", b"ftp:")):
         raise Refused("LeftOut")
     path = url[5:]
@@ -240,7 +239,6 @@ def set_of(text: bytes, marks: list[Mark]) -> frozenset[str]:
 
 
 def read_option(name: str, value: bytes, marks: list[Mark]) -> Mark:
-    """The value of an option."""
     if value == b"":
         raise Refused("BadValue")
     if name in OLDER_OPTIONS or (name, value) == ("report_format", b"json"):

@@ -41,7 +41,6 @@ class Parts(NamedTuple):
 
 
 def order_of(path: bytes) -> list[bytes]:
-    """What paths are ordered by: their pieces."""
     return path.split(b"/")
 
 

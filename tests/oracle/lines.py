@@ -149,8 +149,6 @@ def change_line(change: Change, account: Account, settings: Settings) -> bytes:
 
 
 class Source(NamedTuple):
-    """A database, its path and its text."""
-
     path: bytes
     text: bytes
     database: Database

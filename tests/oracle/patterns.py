@@ -51,7 +51,6 @@ def class_at(component: bytes, at: int) -> tuple[frozenset[int], int]:
 
 
 def expression_of(component: bytes) -> bytes:
-    """The regular expression of a component's text."""
     expression = b""
     at = 0
     while at < len(component):

@@ -109,7 +109,6 @@ def details(changes: list[Change], settings: Settings) -> list[bytes]:
 
 
 def databases(texts: list[bytes], settings: Settings) -> list[bytes]:
-    """The digests of both databases."""
     lines = titled(b"The attributes of the databases:") + [b""]
     for label, path, text in zip(
         (b"Old", b"New"), (settings["database_in"], settings["database_new"]), texts

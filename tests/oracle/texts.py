@@ -13,7 +13,6 @@ def lines_of(text: bytes) -> list[bytes]:
 
 
 def fields_of(line: bytes) -> list[bytes]:
-    """The runs of bytes between blanks."""
     return [field for field in re.split(rb"[ \t]+", line) if field]
 
 

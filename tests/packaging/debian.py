@@ -110,7 +110,6 @@ class Machine:
         self.trial.write(os.path.join("debian-root", path), text)
 
     def enable(self, path: str = WANTED) -> None:
-        """What `systemctl enable` does."""
         path = os.path.join(self.root, path)
         os.makedirs(os.path.dirname(path), exist_ok=True)
         os.symlink("/lib/systemd/system/" + TIMER, path)

@@ -140,7 +140,6 @@ def files(found: dict[str, Any]) -> dict[str, Any]:
 
 
 def texts(found: dict[str, Any]) -> dict[str, str]:
-    """The files that are text, as text."""
     result = {}
     for path, (_, data) in sorted(files(found).items()):
         if b"\0" not in data:

@@ -68,7 +68,6 @@ def wanted_modes(source: str) -> dict[str, int]:
 
 
 def differing(one: dict[str, Any], other: dict[str, Any]) -> list[str]:
-    """The paths at which two trees differ."""
     return sorted(path for path in {*one, *other} if one.get(path) != other.get(path))
 
 
@@ -142,7 +141,6 @@ class InstallingTest(InstallTest):
         self.removes_all(folder, source=source)
 
     def test_uninstall(self) -> None:
-        """Exactly what was installed goes."""
         folder = self.path("shared")
         self.write("shared/usr/local/bin/another", "another's program\n", 0o755)
         self.write("shared/etc/kept", "another's file\n")

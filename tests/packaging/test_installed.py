@@ -31,7 +31,6 @@ UNKNOWN = "a proved build: not known: no proof has noted that it built this file
 @slow
 class InstalledTest(InstallTest):
     def test_programs(self) -> None:
-        """The installed program compares."""
         command = self.first("bin/aide-compare")
         self.assertEqual(os.listdir(self.first("bin")), ["aide-compare"], "one command")
         examples = os.path.join(TOP, "examples")

@@ -150,7 +150,6 @@ def try_devices(trial: Trial) -> None:
 
 
 def try_answers(trial: Trial) -> None:
-    """AIDE's own answers that a page names."""
     groups = dict(re.findall(r"^(\S): (.*)$", trial.run(AIDE, ["--version"]).output_text, re.M))
     for group, wanted in ((">", {"s", "growing"}), ("R", {*"lpugscmin", "md5", "ftype"})):
         found = set(groups.get(group, "").split("+"))

@@ -37,7 +37,6 @@ def database(columns: str, *entries: str) -> str:
 
 
 def plain(*entries: str) -> str:
-    """A database of sizes."""
     return database("name attr size", *entries)
 
 

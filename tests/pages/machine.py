@@ -61,7 +61,6 @@ def installed(program: str) -> str:
 
 
 def example(name: str) -> bytes:
-    """A database of examples/small_tree."""
     with open(os.path.join(TOP, "examples", "small_tree", name), "rb") as file:
         return file.read()
 
@@ -116,7 +115,6 @@ class MachineTest(ScratchTest):
         self.write("/var/lib/dpkg/info/openssl.md5sums", sums)
 
     def put_databases(self, old: str | bytes, new: str | bytes) -> None:
-        """The baseline and the newest database."""
         for name, text in ((BASELINE, old), (NEWEST, new)):
             data = text if isinstance(text, bytes) else text.encode()
             self.write(name, gzip.compress(data), 0o600)

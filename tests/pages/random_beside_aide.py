@@ -70,7 +70,6 @@ def change(tree: str, chance: random.Random) -> None:
 
 
 def change_file(path: str, fresh: str, kind: int, chance: random.Random) -> None:
-    """One operation on a regular file."""
     name = f"user.x{chance.randrange(3)}"
     if kind == 8:
         with open(path, "ab") as file:

@@ -54,7 +54,6 @@ def recipes() -> dict[str, Block]:
 
 
 def of_sizes(sizes: dict[str, int]) -> str:
-    """A database of paths and their sizes."""
     lines = [f"{path} 36 100644 {size}\n" for path, size in sizes.items()]
     return HEAD + "".join(sorted(lines)) + "@@end_db\n"
 
@@ -77,7 +76,6 @@ class RecipesTest(MachineTest):
         return self.recipes["try: " + name].text
 
     def recipe(self, name: str, rights: int | None = None) -> Answer:
-        """What a recipe answers."""
         return self.shell(self.text(name), rights)
 
     def prints(self, name: str, output: str) -> None:
@@ -110,7 +108,6 @@ class RecipesTest(MachineTest):
         return {key: str(value) for key, value in json.loads(self.text_at(STATE)).items()}
 
     def put_host(self, name: str, text: str | bytes, baseline: str | None) -> None:
-        """What a host sends, and its baseline."""
         self.write(f"/remote/{name}/aide.db.new", text)
         if baseline is not None:
             self.write(f"/var/lib/aide-compare/hosts/{name}/aide.db", baseline, 0o600)

@@ -25,8 +25,6 @@ from tests.pages.recipes import (
 
 
 class HandsTest(RecipesTest):
-    """The recipes of MONITORING.md for two databases."""
-
     def test_install(self) -> None:
         self.assertEqual(self.text("install"), "packaging/install\n")
 

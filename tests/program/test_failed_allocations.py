@@ -195,14 +195,12 @@ def sessions(top: bytes, seed: int) -> Iterator[Labelled]:
 
 
 def sessions_of_lines(top: bytes, seed: int) -> Iterator[Labelled]:
-    """Those for the program of lines."""
     yield from sessions(top, seed)
     yield from long_sessions_beside(top)
     yield from random_sessions(top, seed, b"beside", make_session_beside)
 
 
 def try_sessions(refuser: Refuser, known: list[Labelled], jobs: int, tally: AnswerTest) -> None:
-    """Tries sessions."""
     for (label, _), found in zip(
         known, side_by_side(jobs, lambda one: try_session(refuser, one[1]), known)
     ):

@@ -81,7 +81,6 @@ def uses_in(crate: pathlib.Path) -> Graph:
 
 
 def most_columns(part: str, line: str) -> int:
-    """How many characters a line may have."""
     if part == "proofs" or line.startswith("use "):
         return MOST_PROOF_COLUMNS
     return MOST_COMMENT_COLUMNS if line.lstrip().startswith(("//", "--")) else MOST_COLUMNS

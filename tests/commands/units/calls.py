@@ -49,7 +49,6 @@ class ModuleTest(ScratchTest):
             self.assertEqual(got, want)
 
     def gives(self, want: object, work: Callable[..., Any], *given: Any) -> None:
-        """A call returns this."""
         self.expect(f"{work.__name__} of {given!r:.300}", outcome(work, *given), want)
 
     def fails(self, status: int, part: str, work: Callable[..., Any], *given: Any) -> None:

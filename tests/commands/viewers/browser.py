@@ -53,7 +53,6 @@ class Browser:
         self.ask("Performance.enable", timeDomain="threadTicks")
 
     def receive(self) -> dict[str, Any]:
-        """The next message of the browser."""
         while b"\0" not in self.rest:
             self.rest += os.read(self.read, 1 << 20)
         text, self.rest = self.rest.split(b"\0", 1)
@@ -63,7 +62,6 @@ class Browser:
         return message
 
     def ask(self, method: str, **parameters: Any) -> dict[str, Any]:
-        """The answer to an order."""
         self.count += 1
         message = {"id": self.count, "method": method, "params": parameters}
         if self.session:

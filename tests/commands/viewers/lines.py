@@ -40,7 +40,6 @@ def changes_of(objects: list[Fields]) -> list[Fields]:
 
 
 def order_of(fields: Fields) -> tuple[str, int]:
-    """The place of a change among others."""
     return fields["standing"], SEVERITIES.index(fields.get("severity", "high"))
 
 

@@ -68,7 +68,6 @@ def random_option(pick: random.Random) -> tuple[bytes, bytes]:
 
 
 def random_line(pick: random.Random) -> bytes:
-    """A line that mostly is good."""
     way = pick.random()
     if way < 0.5:
         return pick.choice([b"=", b" = ", b"\t= "]).join(random_option(pick))
@@ -87,7 +86,6 @@ def random_line(pick: random.Random) -> bytes:
 
 
 def random_block(pick: random.Random, depth: int = 0) -> list[bytes]:
-    """Lines with blocks among them."""
     lines = []
     for _ in range(pick.choice([0, 1, 2, 4])):
         if pick.random() < 0.25 and depth < 4:

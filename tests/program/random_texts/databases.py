@@ -77,7 +77,6 @@ def random_value(pick: random.Random, form: Form) -> Any:
 
 
 def escaped(pick: random.Random, name: bytes) -> bytes:
-    """One of the spellings of a name."""
     often = pick.choice([0, 0, 0.3])
     form = pick.choice([b"%%%02x", b"%%%02X"])
     must = b" \t\n%"
@@ -93,7 +92,6 @@ def spelled_number(pick: random.Random, number: int) -> bytes:
 
 
 def spelled(pick: random.Random, form: Form, value: Any) -> bytes:
-    """One of the spellings of a value."""
     if form in ("type", "perm"):
         return b"0" * pick.choice([0, 0, 1, 20]) + b"%o" % value
     if form == "number":

@@ -27,7 +27,6 @@ def database(columns: bytes, fields: bytes) -> bytes:
 
 
 def names(count: int) -> bytes:
-    """A database of so many names."""
     return (
         b"@@begin_db\n@@db_spec name\n"
         + b"".join(b"/%06d\n" % number for number in range(count))
@@ -107,7 +106,6 @@ class FolderTest(LinesProgramTest):
         self.addCleanup(self.folder.__exit__)
 
     def agree(self, label: str, words: list[bytes], answer: Answer) -> None:
-        """The definitions give this answer."""
         self.add("the definitions at " + label, difference(wanted(words), answer))
 
     def check_words(self, label: str, words: list[bytes], want: Answer) -> None:
