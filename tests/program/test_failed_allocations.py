@@ -157,7 +157,7 @@ def long_sessions(top: bytes) -> Iterator[Labelled]:
     yield "many definitions, compared", words + [b"-A", b"report_ignore_changed_attrs=gg"]
     yield "a fault behind many definitions", words + [b"-A", b"mine = nope"]
     folder = Folder(os.path.join(top, b"lines"))
-    folder.pair(SKIPPING, SKIPPING, b"/a line without effect @@{A}\n" * 1000)
+    folder.pair(SKIPPING, SKIPPING, (b"/a line without effect @@{A}%s\n" % (b" word" * 54)) * 100)
     conf, words = folder.at("conf"), folder.words()
     yield "a long configuration", words + [b"-B", b"@@define A x"]
     yield "a long configuration that is not there", [b"-E", b"-c", conf + b"\\\n" + b"n" * 4000]
