@@ -12,16 +12,10 @@ from tests.commands.made_up import Package
 from aide_compare.base.ending import Fault
 from aide_compare.changes import packages
 from aide_compare.changes.applied import members_of
-from aide_compare.changes.packages import Dpkg, Member, Members, add_member
+from aide_compare.changes.packages import Dpkg, Member
 
 TOOL = Package("tool", "2", {b"/usr/bin/tool": b"2"}, {b"/etc/tool": b"2", b"/etc/more": b"2"})
-GONE = Package(
-    "gone", "1", {b"/usr/bin/gone": b"1"}, {b"/etc/gone": b"1"}, (), "deinstall ok config-files"
-)
-INFO = b"/var/lib/dpkg/info/"
-
-
-ASKED = {b"/usr/bin/tool\n": 1}
+GONE = Package("gone", "1", {b"/usr/bin/gone": b"1"}, state="deinstall ok config-files")
 
 
 class MembersTest(ModuleTest):
@@ -42,30 +36,32 @@ class PackagesTest(ModuleTest):
             self.write(f"dpkg/info/{package.name}.md5sums", package.sums())
         self.write("dpkg/status", TOOL.status() + b"\n" + GONE.status())
 
-    def dpkg(self) -> Dpkg:
-        return Dpkg(self.path("dpkg"))
+    def members(self) -> list[Member]:
+        return list(Dpkg(self.path("dpkg")).members({b"/usr/bin/tool\n"}))
 
     def test_others(self) -> None:
         """No record is read that others can write, and none but a regular file."""
-        for name in ("status", "info/tool.list"):
+        for name in ("status", "info/tool.list", "info/tool.md5sums"):
             path = self.path(f"dpkg/{name}")
             os.chmod(path, 0o664)
             with self.subTest(name), self.assertRaisesRegex(Fault, "other users can write"):
-                self.dpkg().members(ASKED)
+                self.members()
             os.chmod(path, 0o644)
-        path = self.path("dpkg/info/tool.list")
-        for is_link in (True, False):
+            os.rename(path, path + ".own")
+            os.symlink(path + ".own", path)
+            self.assertRaises(Fault, self.members)
             os.unlink(path)
-            if is_link:
-                os.symlink("gone.list", path)
-            else:
-                os.mkfifo(path, 0o600)
-            self.assertRaises(Fault, self.dpkg().members, ASKED)
+            os.mkfifo(path, 0o600)
+            self.assertRaises(Fault, self.members)
+            os.rename(path + ".own", path)
 
     def test_bound(self) -> None:
-        """Of records that say the same again and again the first ones count."""
-        members: Members = {}
-        with mock.patch.object(packages, "MAX_PACKAGES", 2):
-            for name in ("one", "two", "three"):
-                add_member(members, 1, Member(name))
-        self.expect("what was found", members, {1: [Member("one"), Member("two")]})
+        """All records together have so many bytes, and so many lists are read."""
+        self.write("dpkg/info/tool.list", TOOL.paths() + b"/more\n" * 100)
+        names = ("tool.list", "tool.md5sums", "gone.list")
+        size = sum(os.path.getsize(self.path(f"dpkg/info/{name}")) for name in names)
+        for name, most, found in (("MAX_LISTS", 1, 0), ("MAX_LISTS", 2, 2), ("MAX_BYTES", size, 2)):
+            with mock.patch.object(packages, name, most):
+                self.expect(f"found, {name} {most}", len(self.members()), found)
+        with mock.patch.object(packages, "MAX_BYTES", size - 1):
+            self.assertRaisesRegex(Fault, "has more than", self.members)

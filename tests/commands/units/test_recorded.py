@@ -7,36 +7,42 @@ from tests.commands.units.calls import ModuleTest
 
 from aide_compare.changes.packages import Member
 from aide_compare.changes.recorded import Contents, target_of
+from aide_compare.lines.change import Change, Value, Values
+
+
+LINK = Change(b"/a/b", "added", "Link", "", {}, {}, None)
 
 
 class RecordedTest(ModuleTest):
     def test_names(self) -> None:
-        for link, target in (("c", b"/a/c"), (b"../../c", b"/c"), ("//c/.", b"/c"), (None, None)):
-            self.gives(target, target_of, b"/a/b", {"Lname": link})
-        self.gives(None, target_of, b"/a/b", {})
+        rows: list[tuple[Value, bytes]] = [("c", b"/a/c"), (b"../../c", b"/c"), ("//c/.", b"/c")]
+        for link, target in (*rows, (None, b"")):
+            self.gives(target, target_of, LINK._replace(new={"Lname": link}))
+        self.gives(b"", target_of, LINK)
 
     def test_contents(self) -> None:
         """A content that only the file on this machine says is read, as long as there is room."""
         text = b"x" * 10
         path = self.write("file", text).encode()
-        kinds = ("md5", "sha1", "sha256", "sha512")
+        kinds = ("MD5", "SHA1", "SHA256", "SHA3-512")
         digests = {name: hashlib.new(name, text).hexdigest() for name in kinds}
-        member = Member("p", "md5", digests["md5"])
-        weak = {"md5": digests["md5"]}
-        strong = {"sha256": digests["sha256"], "sha512": digests["sha512"]}
-        rows: list[tuple[str, dict[str, str], Member, int, bool]] = [
-            ("the same digest", weak, member, 0, True),
-            ("another one", weak, member._replace(digest="0" * 32), 11, False),
+        member = Member(path, "p", "MD5", digests["MD5"])
+        other = member._replace(digest="0" * 32)
+        strong: Values = {name: digests[name] for name in kinds[2:]}
+        rows: list[tuple[str, Values, Member, int, bool]] = [
+            ("the same digest", {"MD5": member.digest}, member, 0, True),
+            ("another one", {"MD5": member.digest}, other, 11, False),
             ("read", strong, member, 11, True),
-            ("read, another one", strong, member._replace(digest="0" * 32), 11, False),
+            ("read, another one", strong, other, 11, False),
             ("no room", strong, member, 10, False),
             ("no digest", {}, member, 11, False),
-            ("a weak digest", {"sha1": digests["sha1"]}, member, 11, False),
-            ("another content", {"sha256": digests["sha256"][::-1]}, member, 11, False),
+            ("a weak digest", {"SHA1": digests["SHA1"]}, member, 11, False),
+            ("another content", {"SHA256": digests["SHA256"][::-1]}, member, 11, False),
+            ("only listed", strong, Member(path, "p"), 11, False),
         ]
-        for label, of, other, room, fits in rows:
+        for label, new, of, room, fits in rows:
             contents = Contents()
             self.expect("the room", contents.remaining, 2 << 30)
             contents.remaining = room
-            self.expect(label, contents.fits(path, of, other), fits)
-        self.gives(False, Contents().fits, b"/none", strong, member)
+            self.expect(label, contents.fits(LINK._replace(path=path, new=new), of), fits)
+        self.gives(False, Contents().fits, LINK._replace(new=strong), member)

@@ -12,9 +12,8 @@ from collections.abc import Iterator
 from functools import cached_property
 
 from aide_compare.base.ending import Fault, Status
-from aide_compare.changes.packages import Dpkg, NamedPackages
+from aide_compare.changes.packages import Dpkg, NamedPackages, Rpm
 from aide_compare.changes.recorded import Matcher
-from aide_compare.changes.rpm import Rpm
 from aide_compare.changes.table import Row, Table, Values
 from aide_compare.changes.usr import link_here, usr_of
 from aide_compare.changes.weighing import Scales, directory_of
@@ -74,7 +73,7 @@ class Judged:
         """Finds out which changes are as the packages' records of this machine have them.
         `has_pair`: a trusted pair says which of the records are signed."""
         try:
-            Matcher(records, usr_of(link_here), self.read).match(self.table)
+            Matcher(self.table, usr_of(link_here), self.read).match(records)
             self.named = records.named(self.table, has_pair)
         except BaseException:
             self.table.forget_records()
