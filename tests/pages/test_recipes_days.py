@@ -21,10 +21,11 @@ UPGRADED = ("/usr/bin/openssl", "/usr/lib/ssl.so")
 
 def of_texts(texts: dict[str, str]) -> str:
     """A database of files with these texts, which root owns."""
-    sums = {path: hashlib.md5(text.encode()).digest() for path, text in texts.items()}
-    lines = [f"{path} 4156 100755 0 0 1 {base64.b64encode(sums[path]).decode()}\n" for path in sums]
-    head = "@@begin_db\n@@db_spec name attr perm uid gid size md5\n"
-    return head + "".join(sorted(lines)) + "@@end_db\n"
+    lines = ""
+    for path, text in sorted(texts.items()):
+        sums = [make(text.encode()).digest() for make in (hashlib.md5, hashlib.sha256)]
+        lines += f"{path} 100755 0 0 1 {' '.join(base64.b64encode(one).decode() for one in sums)}\n"
+    return f"@@begin_db\n@@db_spec name perm uid gid size md5 sha256\n{lines}@@end_db\n"
 
 
 @slow
@@ -83,9 +84,8 @@ class DaysTest(RecipesTest):
                     if os.geteuid() == 0:
                         self.assertEqual((done.status, done.output_text), (1, ""), name)
         self.assertEqual(os.listdir(self.path("/var/tmp")), [])
-        self.assertTrue(
-            self.run_words(["cat", self.path(STATE)], NOBODY).output_text.startswith('{"format": ')
-        )
+        done = self.run_words(["cat", self.path(STATE)], NOBODY)
+        self.assertTrue(done.output_text.startswith('{"format": '), done)
 
     def test_aide_stops(self) -> None:
         """The new database is too old: no way of asking takes it for a quiet day."""
@@ -105,8 +105,7 @@ class DaysTest(RecipesTest):
 @slow
 class QuietTest(RecipesTest):
     def test_timer_and_cron(self) -> None:
-        """A quiet night sends no mail. The one of an intruder does, and the mail says what was left
-        out."""
+        """A quiet night sends no mail. An intruder's does, and the mail says what was left out."""
         self.put_night(NIGHT)
         self.assertIn(": 7 open of 7 changes", self.mail_of(self.unit_commands()) or "")
         self.assertEqual(self.recipe("quiet timer"), Answer(b"", b"", 0))
@@ -114,8 +113,7 @@ class QuietTest(RecipesTest):
             with self.subTest(name):
                 self.put_night(NIGHT)
                 self.assertIsNone(self.mail_of(commands))
-                state = self.state()
-                self.assertEqual(state["left_out"], "7")
+                self.assertEqual(self.state()["left_out"], "7")
                 self.put_night(INTRUDER)
                 mail = self.mail_of(commands) or ""
                 self.assertRegex(mail, r"(?m)^Subject: .*: 2 open \(")
@@ -138,9 +136,8 @@ class QuietTest(RecipesTest):
         """AIDE's rules have each file that the commands write, and no other one there."""
         os.makedirs(self.path("/etc/aide/aide.conf.d"))
         self.assertEqual(self.recipe("own files"), Answer(b"", b"", 0))
-        lines = self.text_at("/etc/aide/aide.conf.d/31_aide_aide-compare").splitlines()
         rules = []
-        for line in lines:
+        for line in self.text_at("/etc/aide/aide.conf.d/31_aide_aide-compare").splitlines():
             if line and not line.startswith("#"):
                 pattern, kind = line.lstrip("!").split()[:2]
                 rules.append((kind, re.compile(pattern.replace("\\\\", "\\"))))
@@ -179,7 +176,7 @@ class QuietTest(RecipesTest):
             self.assertEqual(os.stat(self.path(STATE)).st_uid, owner)
 
     def test_upgrade(self) -> None:
-        """A quiet night, one of an upgrade, and then an intruder beside it."""
+        """A quiet night, one of an upgrade, then an intruder beside it, and the signed archive."""
         texts = {**dict.fromkeys(UPGRADED, "old"), "/usr/bin/ls": "as it is"}
         later = {**texts, **dict.fromkeys(UPGRADED, "new")}
         self.put_databases(of_texts(texts), of_texts(texts))
@@ -195,7 +192,10 @@ class QuietTest(RecipesTest):
         self.put_databases(of_texts(texts), of_texts({**later, "/usr/bin/ls": "a back door"}))
         mail = self.mail_of(self.unit_commands()) or ""
         self.assertIn(": 1 open (1 high), 2 recorded (1 high) of 3 changes\n", mail)
-        self.prints("first mail", mail.partition("\n\n")[2])
         done = self.recipe("standings")
         self.assertEqual(done.status, 4, done)
         self.prints("standings", done.output_text)
+        self.write(STORE + "/daily/signed.db.old", of_texts(texts))
+        self.write(STORE + "/daily/signed.db", of_texts(later))
+        mail = self.mail_of(self.unit_commands()) or ""
+        self.prints("first mail", mail.partition("\n\n")[2])
