@@ -51,12 +51,13 @@ def content_of(file: IO[bytes]) -> FieldsByColumn:
 
 def members_of(file: IO[bytes]) -> Iterator[tuple[bytes, FieldsByColumn]]:
     """The members of a tar file: the path of each, and its fields, none for a device."""
-    with tarfile.open(fileobj=file, mode="r:", encoding="utf-8") as tar:
+    try:
+        tar = tarfile.open(fileobj=file, mode="r:", encoding="utf-8")
         seen: dict[str, FieldsByColumn] = {}
         while member := tar.next():
             tar.members = []  # type: ignore[attr-defined] # Otherwise all of them stay in memory.
             if member.size < 0 or member.issparse():  # Read without end; dpkg knows neither.
-                raise Fault(Status.DEVICE, "dpkg does not know a member of a signed package")
+                raise tarfile.ReadError
             fields = seen.get(member.linkname, {}) if member.islnk() else {}
             if member.type in TYPES:
                 mode = TYPES[member.type] + b"%04o" % (member.mode & 0o7777)
@@ -70,10 +71,13 @@ def members_of(file: IO[bytes]) -> Iterator[tuple[bytes, FieldsByColumn]]:
                 target = os.fsencode(member.linkname)
                 fields.update(lname=escaped(target), size=b"%d" % len(target))
             yield path, fields
+    except tarfile.TarError:
+        raise Fault(Status.DEVICE, "dpkg does not know a member of a signed package") from None
 
 
-def number_of(field: bytes) -> int:
-    """The number that a field is; 0 if it is none."""
+def link_count(entry: FieldsByColumn) -> int:
+    """The number of links of an entry; 0 if it was not measured."""
+    field = entry.get("lcount", ABSENT)
     return int(field) if field.isdigit() else 0
 
 
@@ -128,9 +132,14 @@ class Upgrades:
 
     def keep(self, signed: Signed) -> None:
         """Takes the file of a package itself, which apt keeps."""
-        digest = base64.b64encode(bytes.fromhex(signed["SHA256"]))
-        fields = dict(perm=b"100644", uid=b"0", gid=b"0", size=os.fsencode(signed["Size"]))
-        self._put(os.fsencode(KEPT + file_name(signed)), {**fields, "sha256": digest}, False)
+        fields = {
+            "perm": b"100644",
+            "uid": b"0",
+            "gid": b"0",
+            "size": os.fsencode(signed["Size"]),
+            "sha256": base64.b64encode(bytes.fromhex(signed["SHA256"])),
+        }
+        self._put(os.fsencode(KEPT + file_name(signed)), fields, False)
 
     def _take_files(self, files: IO[bytes], is_new: bool) -> FieldsByColumn:
         """Takes the files of a package. Returns what its list is then."""
@@ -186,7 +195,7 @@ def with_content(entry: FieldsByColumn, new: FieldsByColumn) -> FieldsByColumn:
 def with_links(entry: FieldsByColumn, rise: int) -> FieldsByColumn:
     """A directory with another number of subdirectories. A file system that does not count them has
     one link for each."""
-    count = number_of(entry.get("lcount", ABSENT))
+    count = link_count(entry)
     if count < 2:
         return entry
     return {**entry, "lcount": b"%d" % (count + rise)}
@@ -197,9 +206,14 @@ def new_entry(
 ) -> FieldsByColumn:
     """The entry of a new file: measured as another one with its mode, and with no right beyond
     that."""
-    more = dict(name=escaped(path), capabilities=ABSENT, xattrs=ABSENT)
-    more.update(uid=new["uid"], gid=new["gid"])
-    count = number_of(likely.get("lcount", ABSENT))
+    more = {
+        "name": escaped(path),
+        "capabilities": ABSENT,
+        "xattrs": ABSENT,
+        "uid": new["uid"],
+        "gid": new["gid"],
+    }
+    count = link_count(likely)
     if count > 1:
         more["lcount"] = b"%d" % (2 + rise if is_directory(new) else 1)
     return {name: more.get(name, field) for name, field in with_content(likely, new).items()}
