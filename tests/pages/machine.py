@@ -160,7 +160,8 @@ class MachineTest(ScratchTest):
         places = ["/stubs", "/usr/local/sbin", "/usr/local/bin"]
         path = ":".join([*map(self.path, places), os.environ["PATH"]])
         own = {"PATH": path, "TMPDIR": self.path("/var/tmp"), "HOME": self.path("/tmp")}
-        return {**os.environ, **own}
+        # In a command itself, the path of a clone below /root would be put below the root.
+        return {**os.environ, **own, "EXAMPLES": os.path.join(TOP, "examples")}
 
     def run_words(self, words: list[str], rights: int | None = None) -> Answer:
         """Runs a command: its status, output and errors, with the root taken out. `rights`: a

@@ -99,9 +99,7 @@ class PagesTest(MachineTest):
         if "jq" in block.text:
             self.needs("jq")
         self.fill()
-        lines = [*block.values("before"), block.text]
-        begin = f"EXAMPLES='{TOP}/examples'\nset -u\n"
-        done = self.shell(begin + "\n".join(lines))
+        done = self.shell("\n".join(["set -u", *block.values("before"), block.text]))
         self.assertEqual(done.status, int(status), done)
         for text in block.values("prints"):
             self.assertIn(text, done.output_text + done.error_text)
@@ -143,7 +141,7 @@ class BlocksTest(PagesTest):
         """The lines of README's first block are printed, in this order; it leaves others out."""
         command, *lines = blocks_of("README.md")[0].text.splitlines()
         self.assertEqual(command, "$ aide-compare old.db new.db")
-        done = self.shell(f"cd '{TOP}/examples/small_tree' && {command[2:]}")
+        done = self.shell(f'cd "$EXAMPLES/small_tree" && {command[2:]}')
         printed = iter([line.rstrip() for line in done.output_text.splitlines()])
         shown = [line.rstrip() for line in lines if line.strip() != "..."]
         self.assertEqual([line for line in shown if line not in printed], [], done)
@@ -210,12 +208,7 @@ class WordsTest(unittest.TestCase):
 
     def test_messages(self) -> None:
         """The messages that the pages list are in the text of the modules."""
-        files = subprocess.run(
-            ["find", os.path.join(TOP, "commands", "lib"), "-name", "*.py"],
-            stdout=subprocess.PIPE,
-            check=True,
-            text=True,
-        ).stdout.split()
+        files = glob.glob(os.path.join(TOP, "commands/lib/**/*.py"), recursive=True)
         text = "".join(JOINT.sub("", PROSE.sub("", read(path))) for path in files)
         for page in set(MANUALS) - set(OF_THE_PROGRAM):
             named = re.findall(r'^\.It Li "(.*)"$|^\.Ql (aide-compare.*:.*) \.$', read(page), re.M)
