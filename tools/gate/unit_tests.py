@@ -26,7 +26,9 @@ EXPECTED = re.compile(
     "|no device can be made here"
     "|there is no address [0-9a-z:.]+ here"
 )
-SKIPPED = re.compile(r"\.\.\. skipped (['\"])(.*)\1$", re.M)
+SKIPPED = re.compile(r"(?:^|\.\.\. )skipped (['\"])(.*)\1$", re.M)
+# A part of a test, by `subTest`. Before Python 3.11 it looks as if the whole test were skipped.
+SKIPPED_PART = re.compile(r"^  \w+ \(\S+\) .*?(?:\n.*?)?? \.\.\. skipped ", re.M)
 RAN = re.compile(r"^Ran (\d+) tests? in ", re.M)
 FAILED = re.compile(r"(?:failures|errors|unexpected successes)=(\d+)")
 # The checks of the source, which need no program.
@@ -67,7 +69,8 @@ def judge(module: str, status: int, text: str, tally: Tally) -> None:
     if failed or not ran:
         print(text, flush=True)
     count = int(ran[-1]) if ran else 0
-    tally.passed += max(0, count - len(reasons) - failed)
+    skipped = len(reasons) - len(SKIPPED_PART.findall(text))
+    tally.passed += max(0, count - skipped - failed)
     for reason in reasons:
         is_expected = EXPECTED.fullmatch(reason)
         print(
