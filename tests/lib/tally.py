@@ -1,6 +1,7 @@
 """Counting what comes out as wanted, and work side by side."""
 from __future__ import annotations
 
+from collections import Counter
 from collections.abc import Callable, Iterable, Iterator, Sequence
 from concurrent.futures import ThreadPoolExecutor
 from typing import TypeVar
@@ -14,6 +15,7 @@ class Tally:
 
     def __init__(self) -> None:
         self.passed = self.failed = 0
+        self.skipped: Counter[str] = Counter()
 
     def add(self, label: str, faults: Sequence[str]) -> None:
         if not faults:
@@ -29,8 +31,10 @@ class Tally:
         self.add(label, [] if good else [f"does not hold {text[:2000]}".rstrip()])
 
     def status(self) -> int:
-        """Prints the last line, and returns the status of the process. A run in which nothing was
-        tried has failed."""
+        """Prints why and how often something was skipped, and the last line. Returns the status of
+        the process: a run in which nothing was tried has failed."""
+        for reason, count in sorted(self.skipped.items()):
+            print(f"skipped {count}: {reason}")
         if not self.passed + self.failed:
             self.add("all", ["nothing was tried"])
         print(f"{self.passed} passed, {self.failed} failed", flush=True)

@@ -71,6 +71,7 @@ def judge(module: str, status: int, text: str, tally: Tally) -> None:
     count = int(ran[-1]) if ran else 0
     skipped = len(reasons) - len(SKIPPED_PART.findall(text))
     tally.passed += max(0, count - skipped - failed)
+    tally.skipped.update(reasons)
     for reason in reasons:
         is_expected = EXPECTED.fullmatch(reason)
         print(

@@ -43,6 +43,7 @@ class Gate(Tally):
         self.spent.append((name, processor_time() - before))
         self.passed += tally.passed
         self.failed += tally.failed
+        self.skipped += tally.skipped
         if not tally.passed + tally.failed:
             self.add(name, ["it counted nothing"])
 
