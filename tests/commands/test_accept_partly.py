@@ -12,7 +12,6 @@ from .sandbox import END, HEAD, NEW, NOBODY, OLD, sha256
 
 KEPT = HEAD + b"/b 36 40755 4096\n/c 36 100644 10\n/d 36 100644 2\n" + END
 OPEN = ("--keep-open", "/[ab]", "--keep-open", "/c")
-OWNERS = (None, NOBODY) if os.getuid() == 0 else (None,)
 
 
 def database(entries: dict[str, int]) -> bytes:
@@ -57,19 +56,22 @@ class AcceptPartlyTest(AcceptingTest):
         entries = b"it contains the new entries, but for what stays open the former ones: "
         counts = entries + b"added 1, removed 1, changed 1\n"
         told = [b"now, but for what stays open: ", sha256(KEPT).encode(), counts]
-        for owner in OWNERS:
-            fresh(self, owner)
-            self.accepts(told, sha256(NEW), *OPEN)
-            self.assertEqual(contents(self), (KEPT, OLD, NEW, 3))
-            # Packed as the new one, without a name or a time.
-            self.assertEqual(self.read(BASE + "aide.db")[:8], b"\x1f\x8b\x08" + bytes(5))
-            words = (*([] if owner is None else ["--user", "nobody"]), *FILES[::-1])
-            brief = b"  added    /a: "
-            self.answered(7, brief, b"3 open of 3 changes", "aide-compare", *words)
-            self.accepts(b"the baseline already, but for what stays open", sha256(NEW), *OPEN)
-            self.assertEqual(contents(self), (KEPT, OLD, NEW, 3), "nothing changes")
-            self.accepts(b"the baseline now: ")
-            self.assertEqual(contents(self), (NEW, KEPT, NEW, 3), "then the rest")
+        for owner in (None, NOBODY):
+            with self.subTest(owner=owner):
+                if owner:
+                    self.needs_root()
+                fresh(self, owner)
+                self.accepts(told, sha256(NEW), *OPEN)
+                self.assertEqual(contents(self), (KEPT, OLD, NEW, 3))
+                # Packed as the new one, without a name or a time.
+                self.assertEqual(self.read(BASE + "aide.db")[:8], b"\x1f\x8b\x08" + bytes(5))
+                words = (*([] if owner is None else ["--user", "nobody"]), *FILES[::-1])
+                brief = b"  added    /a: "
+                self.answered(7, brief, b"3 open of 3 changes", "aide-compare", *words)
+                self.accepts(b"the baseline already, but for what stays open", sha256(NEW), *OPEN)
+                self.assertEqual(contents(self), (KEPT, OLD, NEW, 3), "nothing changes")
+                self.accepts(b"the baseline now: ")
+                self.assertEqual(contents(self), (NEW, KEPT, NEW, 3), "then the rest")
 
     def test_empty_lines(self) -> None:
         """Empty lines and comments, which AIDE may write, stay where they are in the new one."""

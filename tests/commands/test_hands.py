@@ -107,7 +107,8 @@ class HandsTest(CommandTest):
         """Defaults that others can write are refused as the file of --exclude-from is, and no alarm
         is lost for it."""
         cases: list[tuple[int, int, int]] = [(0o666, 0, 0o755), (0o664, 0, 0o755)]
-        if os.geteuid() == 0:
+        with self.subTest("another user's places"):
+            self.needs_root()
             cases += [(0o644, NOBODY, 0o755), (0o644, 0, 0o777)]
         for name, what in (("defaults", b"defaults"), ("without", b"file of --exclude-from")):
             for mode, owner, folder in cases:

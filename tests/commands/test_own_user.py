@@ -44,4 +44,4 @@ class OwnUserTest(CommandTest):
             check=False,
         )
         self.assertEqual(done.returncode, 0, done.stdout.decode("utf-8", "replace"))
-        self.assertIn(b"\nOK\n", done.stdout)
+        self.assertIn(b"\nOK (skipped=2)\n", done.stdout, "parts of two tests need root")

@@ -117,8 +117,8 @@ class Machine:
 
 def try_life(trial: InstallTest, package: str) -> None:
     """An installation, two removals and a purge, by dpkg itself."""
-    if os.geteuid() or not shutil.which("dpkg") or not shutil.which("deb-systemd-helper"):
-        return
+    trial.needs_root()
+    trial.needs("dpkg", "deb-systemd-helper")
     machine = Machine(trial, package)
     machine.install()
     for path in ("usr/bin/aide-compare", "usr/share/doc/aide-compare/copyright"):

@@ -14,7 +14,7 @@ from tests.commands.sandbox import compiled_commands
 from tests.lib.answer import Answer
 from tests.lib.program_test import ScratchTest
 from tests.lib.programs import find_program, lines_program_of
-from tests.lib.scratch import TOP
+from tests.lib.scratch import TOP, read
 
 PARTS = [
     *("commands contrib docs examples/small_tree man packaging".split()),
@@ -41,8 +41,7 @@ class InstallTest(ScratchTest):
             self.make_newer(one) for one in (self.program, lines_program_of(self.program))
         ]
         self.source = self.copy("source")
-        with open(os.path.join(self.source, "VERSION")) as file:
-            self.version = file.read().strip()
+        self.version = read("VERSION").strip()
         self.plain_path = self.make_plain_path()
 
     def copied_programs(self, program: str, folder: str, name: str) -> str:
@@ -58,8 +57,7 @@ class InstallTest(ScratchTest):
     def make_newer(self, program: str) -> str:
         """A program beside another that stands for its build for newer processors, with the record
         of a proof."""
-        with open(program, "rb") as file:
-            data = file.read() + bytes(1)
+        data = self.read(program) + bytes(1)
         digest = hashlib.sha256(data).hexdigest()
         self.write(program + "-v3.proved", f"sha256={digest}\nkit=a kit\n")
         return self.write(program + "-v3", data, 0o755)

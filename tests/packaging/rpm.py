@@ -13,6 +13,8 @@ NOT = {"lib/aide-compare/installed"}
 
 
 def try_life(trial: InstallTest, package: str) -> None:
+    trial.needs_root()
+    trial.needs("rpmbuild", "rpm")
     root = trial.path("rpm-root")
     os.makedirs(root)
 

@@ -100,8 +100,7 @@ class InstallingTest(InstallTest):
         self.assertEqual(folders, {0o755}, "the modes of folders")
         programs = (self.program, lines_program_of(self.program), *self.newer)
         for program, target in zip(programs, PROGRAMS + NEWER):
-            with open(program, "rb") as file:
-                self.assertEqual(found[prefix + target][1], file.read(), target)
+            self.assertEqual(found[prefix + target][1], self.read(program), target)
         commands = [target for target in wanted if target.startswith("bin/")]
         self.assertEqual(commands, ["bin/aide-compare"])
 

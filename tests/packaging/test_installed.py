@@ -43,8 +43,7 @@ class InstalledTest(InstallTest):
         the record of a proof."""
         digests = []
         for program in sorted((self.program, lines_program_of(self.program), *self.newer)):
-            with open(program, "rb") as file:
-                digests.append(hashlib.sha256(file.read()).hexdigest())
+            digests.append(hashlib.sha256(self.read(program)).hexdigest())
         done = self.run_words([self.first("bin/aide-compare"), "--version"])
         self.assertEqual(done.status, 0, done)
         self.assertTrue(done.output_text.startswith(f"aide-compare {self.version}\n"), done)
@@ -112,15 +111,10 @@ class InstalledTest(InstallTest):
 
     def test_units(self) -> None:
         """The units are sound where systemd says so, and call what is installed."""
-        folder = self.first("lib/systemd/system")
-        units = {}
-        for name in os.listdir(folder):
-            with open(os.path.join(folder, name)) as file:
-                units[name] = file.read()
+        units = texts(tree(self.first("lib/systemd/system")))
         service = units["aide-compare.service"]
         self.assertEqual(re.findall(r"^ExecStart=(.*)$", service, re.M), [START])
-        if not shutil.which("systemd-analyze"):
-            self.skipTest("not installed: systemd-analyze")
+        self.needs("systemd-analyze")
         release = re.match(
             r"systemd (\d+)", self.run_words(["systemd-analyze", "--version"]).output_text
         )
@@ -145,10 +139,8 @@ class InstalledTest(InstallTest):
         self.assertEqual(done.status, 0, done)
         daily = os.path.join(folder, DOCUMENTS, "examples/cron/aide-compare.cron.daily")
         os.makedirs(self.path("lib/aide"))
-        with open(daily) as file:
-            text = file.read().replace("/var/lib/", self.path("lib/"))
-        with open(daily, "w") as file:
-            file.write(text)
+        text = self.read(daily).replace(b"/var/lib/", os.fsencode(self.path("lib/")))
+        self.write(daily, text, 0o755)
         tool = os.path.join(folder, "bin", "aide-compare")
         for status in (0, 5, 18):
             stub = f'#!/bin/sh\necho "$0 $*" >> "{called}"\nexit {status}\n'
@@ -156,12 +148,12 @@ class InstalledTest(InstallTest):
             self.assertEqual(self.run_words([daily]), Answer(b"", b"", status))
         os.remove(tool)
         self.assertEqual(self.run_words([daily]), Answer(b"", b"", 0))
-        with open(called) as file:
-            lines = file.read().splitlines()
+        lines = self.read(called).decode().splitlines()
         user = pwd.getpwuid(os.geteuid()).pw_name
         wanted = f"{tool} mail --user {user} --alarm-sent-is-success"
         self.assertEqual(lines, [wanted] * 3, "what the jobs call")
-        if shutil.which("run-parts"):
+        with self.subTest("run-parts"):
+            self.needs("run-parts")
             for name in ("aide-compare.cron.daily", "aide-compare"):
                 target = self.path("parts-" + name, name)
                 os.makedirs(os.path.dirname(target))

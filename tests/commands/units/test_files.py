@@ -43,7 +43,8 @@ class FilesTest(PlacesTest):
         self.gives(([ANYBODY], True), others_of, self.path("sticky"))
         self.gives(([], True), others_of, self.path("sticky/own"))
         self.gives(([ANYBODY], False), others_of, self.path("group"))
-        if os.getuid() == 0:
+        with self.subTest("another user's places"):
+            self.needs_root()
             self.gives(([OTHER], False), others_of, self.path("his"))
             self.gives(([OTHER], False), others_of, self.path("his/roots"))
         self.fails(18, "No such file", others_of, self.path("none"))
@@ -70,7 +71,8 @@ class FilesTest(PlacesTest):
         self.fails(18, "No such file", text_of, self.path("none"))
         self.fails(18, "a device", text_of, "/dev/zero")
         self.fails(18, "not followed", text_of, self.path("group/link"))
-        if os.getuid() == 0:
+        with self.subTest("another user's links"):
+            self.needs_root()
             os.chown(self.path("sticky/his"), OTHER, OTHER, follow_symlinks=False)
             self.fails(18, "not followed", text_of, self.path("his/link"))
             self.fails(18, "not followed", text_of, self.path("sticky/his"))

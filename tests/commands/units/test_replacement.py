@@ -112,7 +112,8 @@ class ReplacementTest(PlacesTest):
         os.mkdir(self.path("own/late"))
         self.fails(15, "is a directory", late.commit, b"x")
         self.assertEqual(replaced(self.path("sticky/state"), b"x")[:3], (b"x", 0o644, me))
-        if me == 0:
+        with self.subTest("another user's places"):
+            self.needs_root()
             self.fails(18, "other users", begun, self.path("his/state"))
             his = repr((b"x", 0o644, OTHER)).encode()
             self.gives(his, in_child, lambda: self.replaced_as_owner("his/state"))
@@ -136,7 +137,8 @@ class ReplacementTest(PlacesTest):
         self.assertEqual(self.read("here"), b"x")
         self.gives((b"y", os.getuid()), copied_over, self.path("made/state"), b"y")
         self.fails(18, "No such file", copied_over, self.path("none/state"), b"y")
-        if os.getuid() == 0:
+        with self.subTest("another user's places"):
+            self.needs_root()
             self.fails(18, "other users", copied_over, self.path("his/state"), b"z")
 
     def test_exchange(self) -> None:

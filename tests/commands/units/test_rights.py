@@ -113,7 +113,8 @@ class OwnersTest(PlacesTest):
         for name in (*names, "/dev/fd/3", "-", self.path("none/x")):
             self.gives(None, rights.owner_of, name)
             self.gives(None, rights.become_owner, name)
-        if os.getuid() == 0:
+        with self.subTest("another user's places"):
+            self.needs_root()
             self.gives(OTHER, rights.owner_of, self.path("his/x"))
             self.as_owner()
             os.chown(self.path("his/roots"), 1, 1)

@@ -61,7 +61,8 @@ class SendingTest(ModuleTest):
                 self.gives(b"text", sending.waiting_mail, directory, "a.mail")
                 self.write("b.mail", b"texts")
                 self.fails(18, "is no mail", sending.waiting_mail, directory, "b.mail")
-            if os.getuid() == 0:
+            with self.subTest("another user's mail"):
+                self.needs_root()
                 os.chown(self.path("a.mail"), OTHER, OTHER)
                 self.fails(18, "is no mail", sending.waiting_mail, directory, "a.mail")
         self.gives(None, sending.send_all, self.path("none"), None)  # Nothing has waited yet.
