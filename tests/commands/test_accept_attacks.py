@@ -31,6 +31,7 @@ KINDS = {
 
 def put(sandbox: CommandTest, kind: str) -> tuple[str, str]:
     """Makes the folders anew. Returns the two names of an attack."""
+    sandbox.needs_root()
     for name in ("root", "theirs"):
         shutil.rmtree(sandbox.path(name), ignore_errors=True)
     for name in ("root/secret", "root/aide.db"):
