@@ -11,7 +11,7 @@ import tempfile
 from typing import Any
 
 from tests.commands.sandbox import compiled_commands
-from tests.lib.answer import Answer
+from tests.lib.answer import Answer, run
 from tests.lib.program_test import ScratchTest
 from tests.lib.programs import find_program, lines_program_of
 from tests.lib.scratch import TOP, read
@@ -89,8 +89,7 @@ class InstallTest(ScratchTest):
         return folder
 
     def run_words(self, words: list[str], **more: Any) -> Answer:
-        done = subprocess.run(words, stdin=subprocess.DEVNULL, capture_output=True, **more)
-        return Answer(done.stdout, done.stderr, done.returncode)
+        return run(words[0], words[1:], **more)
 
     def install(self, *words: str, source: str = "", shell: Any = ("sh",), **more: Any) -> Answer:
         """Runs packaging/install of a copy, in a folder that is not the repository."""

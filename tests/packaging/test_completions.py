@@ -174,7 +174,7 @@ class CompletionsTest(InstallTest):
             ("aide-compare hosts report --format=js", "aide-compare hosts report --format=json"),
         ):
             done = self.run_words(
-                ["zsh", "-f", "-c", ASK_ZSH, "zsh", folder, line], cwd=self.source, timeout=60
+                ["zsh", "-f", "-c", ASK_ZSH, "zsh", folder, line], cwd=self.source
             )
             self.assertTrue(
                 done.status == 0 and wanted in done.output_text.replace("\r", ""),
@@ -189,7 +189,7 @@ class CompletionsTest(InstallTest):
 
         def offered(line: str) -> list[str]:
             words = ["fish", "-c", f"complete -C '{line}'"]
-            done = self.run_words(words, cwd=self.source, env=surroundings, timeout=60)
+            done = self.run_words(words, cwd=self.source, env=surroundings)
             self.assertEqual(done.status, 0, ("fish completes " + line, done))
             return [one.split("\t")[0] for one in done.output_text.splitlines()]
 
