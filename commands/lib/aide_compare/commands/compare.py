@@ -74,7 +74,7 @@ not silent; above 7 no comparison. With --report that of aide-compare-program(8)
 class CompareRequest(Asked):
     """What the options of a comparison ask for."""
 
-    is_quiet: bool = field(QUIET, help="print only why nothing was compared")
+    is_quiet: bool = field(QUIET, help="print neither the report nor a note")
     databases: Sequence[str] = field(
         Operand(
             "OLD NEW",
