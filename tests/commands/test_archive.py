@@ -390,6 +390,10 @@ class ArchiveTest(ArchiveCase):
         self.set_names("changes.signed", GPGV=("sh", "-c", "kill -9 $PPID"))
         place.ask("--output", "made.db")
         self.assertEqual(self.read("made.db"), old, "also of a run that is killed")
+        few = b"@@begin_db\n@@db_spec name size\n/a 1\n@@end_db\n"
+        self.write("few.db", few)
+        answer = self.call(ARCHIVE, source, "few.db", "few.db")
+        self.assertEqual((answer.status, answer.output), (0, few), answer)
 
     def test_user(self) -> None:
         """Root may give up its privileges first. The file is that of the directory's user."""

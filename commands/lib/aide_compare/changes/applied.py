@@ -262,7 +262,7 @@ def upgraded(old: Copy, new: Copy, upgrades: Upgrades) -> int:
         entry = reader.fields(next(group).line)
         if entry:
             if is_likely(entry):
-                last[entry["perm"]] = entry
+                last[entry.get("perm", ABSENT)] = entry
             has_type = type_digits(fields) == type_digits(entry)
             if has_type and is_directory(entry):
                 entry = with_links(entry, rises[key])
