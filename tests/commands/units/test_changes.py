@@ -71,7 +71,7 @@ class ChangesTest(ModuleTest):
 
     def test_counts(self) -> None:
         self.expect("no change", set(Counts()), {0})
-        self.expect("the sums", (COUNTS.silent, COUNTS.told, COUNTS.total), (127, 9, 136))
+        self.expect("the sums", (COUNTS.silent, COUNTS.to_read, COUNTS.total), (127, 9, 136))
         self.expect("the high ones", COUNTS.of_severity("high"), 1)
         self.expect("the low ones", COUNTS.of_severity("low"), 5)
         self.expect("the words", COUNTS.words(), "6 open (1 high), 3 recorded of 136 changes")

@@ -63,7 +63,7 @@ class KeptLinesTest(ModuleTest):
         kept = kept_in(b"".join(kept_lines.kept_lines(judged, ROOM)))
         lines = [(each.line, each.kind, each.silent) for each in kept.outlines()]
         wanted = [(line_of(each), each["kind"], None) for each in SOUND]
-        self.assertEqual((lines, kept.told), (wanted, 2))
+        self.assertEqual((lines, kept.to_read), (wanted, 2))
         self.assertEqual(read_back({"format": 3}, *SOUND, END), ["/srv/a", "/srv/b"])
 
     def test_refused(self) -> None:

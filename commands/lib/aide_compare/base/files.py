@@ -24,7 +24,7 @@ PRIVATE = 0o600
 # Where a caller's open files have names.
 OPENED = ("/dev/fd/", "/proc/self/fd/")
 NO_TMPFILE = (errno.EOPNOTSUPP, errno.EISDIR, errno.EINVAL)
-NEW_FILE = os.O_CREAT | os.O_EXCL | os.O_RDWR | os.O_NOFOLLOW | os.O_CLOEXEC
+CREATED = os.O_CREAT | os.O_EXCL | os.O_RDWR | os.O_NOFOLLOW | os.O_CLOEXEC
 FILE_KINDS = {
     stat.S_IFREG: "file",
     stat.S_IFDIR: "directory",
@@ -186,7 +186,7 @@ def new_file(directory: int, name: str, more: int = 0) -> tuple[int, str]:
     except OSError as error:
         if error.errno not in NO_TMPFILE:
             raise
-    return os.open(name, NEW_FILE, PRIVATE, dir_fd=directory), name
+    return os.open(name, CREATED, PRIVATE, dir_fd=directory), name
 
 
 def unlink(name: str, directory: int) -> None:

@@ -58,7 +58,7 @@ class KeptChanges:
 
     def __init__(self, directory: HostDirectory, host: Host) -> None:
         self.path = directory.file(LINES)
-        self.told = host.open
+        self.to_read = host.open
         self.report = UNREADABLE
         self.listed = 0
 
@@ -69,9 +69,9 @@ class KeptChanges:
                 for change in lines.outlines():
                     self.listed += 1
                     yield change
-                if lines.told == self.told:  # Otherwise they are the lines of another run.
+                if lines.to_read == self.to_read:  # Otherwise they are the lines of another run.
                     self.report = CUT
-                    if self.listed == lines.told:
+                    if self.listed == lines.to_read:
                         self.report = WHOLE
         except (Fault, Refused):
             pass

@@ -72,16 +72,16 @@ class KeptLines(Reader):
 
     format = FORMAT
     outline = re.compile(b"(?!)")  # A disk may have damaged a value, so the whole line is read.
-    told = 0
+    to_read = 0
 
     def _read_end(self, fields: Fields) -> None:
         listed = sum(self._counted[kind] for kind in KINDS)
         try:
             counts = Counts(**{name: fields[name] for name in Counts._fields})
-            is_sound = counts.fits(counts.total) and fields["listed"] == listed <= counts.told
+            is_sound = counts.fits(counts.total) and fields["listed"] == listed <= counts.to_read
         except ODD:
             is_sound = False
         has_silent = Standing.SAME in self._counted or Standing.LEFT_OUT in self._counted
         if not is_sound or has_silent or self.file.read(1):
             raise Refused(self.number, "the end does not fit the lines before it")
-        self.told = counts.told
+        self.to_read = counts.to_read

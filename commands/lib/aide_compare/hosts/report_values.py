@@ -92,7 +92,7 @@ class Host(NamedTuple):
     @property
     def open(self) -> int | None:
         """How many of its changes are not silent."""
-        return self.counts.told if self.counts else None
+        return self.counts.to_read if self.counts else None
 
     @property
     def high(self) -> int | None:

@@ -159,20 +159,20 @@ class Counts(NamedTuple):
     recorded_medium: int = 0
     recorded_low: int = 0
     left_out: int = 0
-    told_status: int = 0  # The sum of 1 added, 2 removed and 4 changed, of those that are told.
+    told_status: int = 0  # The sum of 1 added, 2 removed and 4 changed, of those to read.
 
     @property
     def silent(self) -> int:
         return self.same + self.trusted + self.left_out
 
     @property
-    def told(self) -> int:
+    def to_read(self) -> int:
         """How many changes somebody has to read."""
         return self.recorded + self.open
 
     @property
     def total(self) -> int:
-        return self.silent + self.told
+        return self.silent + self.to_read
 
     def of_severity(self, severity: str) -> int:
         """How many changes that are not silent have this severity."""
@@ -191,7 +191,7 @@ class Counts(NamedTuple):
             by_severity = sum(self.of(standing, severity) for severity in SEVERITIES)
             if by_severity != self.of(standing):
                 return False
-        has_status = bool(self.told_status) == bool(self.told) and self.told_status <= 7
+        has_status = bool(self.told_status) == bool(self.to_read) and self.told_status <= 7
         return has_status and min(self) >= 0 and self.total == changes
 
     def words(self) -> str:

@@ -47,7 +47,7 @@ def is_reached(limit: AlarmLimit | None, counts: Counts, usual: int) -> bool:
     if limit.severity:
         severities = SEVERITIES[: SEVERITIES.index(limit.severity) + 1]
         return any(counts.of_severity(severity) for severity in severities)
-    return counts.told >= limit.changes
+    return counts.to_read >= limit.changes
 
 
 def level_of(state: State, warning: AlarmLimit | None, critical: AlarmLimit | None) -> Level:
@@ -61,7 +61,7 @@ def level_of(state: State, warning: AlarmLimit | None, critical: AlarmLimit | No
         return Level.WARNING if state.status == ONLY_ADDED else Level.CRITICAL
     if is_reached(critical, counts, counts.open_high):
         return Level.CRITICAL
-    if is_reached(warning, counts, counts.told):
+    if is_reached(warning, counts, counts.to_read):
         return Level.WARNING
     return Level.OK
 

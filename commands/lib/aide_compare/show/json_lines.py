@@ -47,12 +47,12 @@ def end_of(reader: Reader, comparison: Comparison, judged: Judged | None) -> Fie
 def marked_lines(reader: Reader, judged: Judged | None) -> Iterator[tuple[bytes, Marks]]:
     """The lines of a Reader, each with the standing of its change, and with what is known of it if
     the changes were judged."""
-    told = judged.table.marks() if judged else None
+    marks = judged.table.marks() if judged else None
     for outline in reader.outlines():
         if outline.silent:
             yield outline.line, Marks(outline.silent.value)
-        elif told:
-            yield outline.line, next(told)
+        elif marks:
+            yield outline.line, next(marks)
         else:
             yield outline.line, Marks(Standing.OPEN.value)
 
