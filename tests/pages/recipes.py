@@ -114,6 +114,7 @@ class RecipesTest(MachineTest):
 
     def set_up(self) -> Answer:
         """The first recipe, on a machine whose baseline is put back by aideinit."""
+        self.needs_root()
         made = self.path(BASELINE)
         os.rename(made, made + ".made")
         move = f'#!/bin/sh\nmv "{made}.made" "{made}"\n'
