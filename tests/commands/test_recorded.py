@@ -269,9 +269,9 @@ class ManyTest(CommandTest):
             self.set_names("changes.recorded", MAX_WANTED=size)
             self.assertEqual(standings_of(host.ask(self)[1]), wanted, size)
             self.assertEqual(host.brief(self), brief, size)
-        self.set_names("changes.recorded", MAX_WANTED=1 << 21, MAX_MEMBERS=2)
+        self.set_names("changes.recorded", MAX_WANTED=1, MAX_MEMBERS=2)
         found = standings_of(host.ask(self)[1], ("package",))
-        self.assertEqual([path for path in found if found[path]], [LIB + b"tool00"], found)
+        self.assertEqual([path for path in found if found[path]], [LIB + b"bare"], found)
 
     def test_records_that_end(self) -> None:
         """If a change cannot be read after some were recorded, all are open."""
