@@ -29,7 +29,8 @@ create table changes (
 # looks for no function that would adapt them, which takes as long as all else.
 Values = tuple[bytearray, bytearray, str, int, int, int, str, int, int]
 INSERT = """
-insert into changes (path_key, site, kind, owners, rank, party, asked, line_at, line_size) values """
+insert into changes (path_key, site, kind, owners, rank, party, asked, line_at, line_size)
+values """
 PLACES = "(?, ?, ?, ?, ?, ?, ?, ?, ?)"
 WIDTH = 9
 # So many rows are inserted at once.
