@@ -303,6 +303,10 @@ class SeverityTest(ModuleTest):
         self.assertEqual(level_of(table, b"/opt/a", None, link), "low")
         self.assertEqual(level_of(table, b"/srv/a", None, link), "medium", "in no line")
         self.assertEqual(level_of(table, b"/opt/a", None, entry(FILE)), "high", "its second line")
+        rows = b"low any /a/b*\nhigh any /a/b\nlow any /a/c\nhigh any /a/*\nmedium any /a/c\n"
+        first = Severity(self.write("table", rows))
+        levels = [level_of(first, path, None, link) for path in (b"/a/b", b"/a/c", b"/a/d")]
+        self.assertEqual(levels, ["low", "low", "high"], "the first line, whatever its pattern")
         for line in (b"urgent any /*", b"low /opt/*", b"low odd /opt/*", b"low any opt", b"low"):
             self.fails(15, "table, line 1: ", Severity, self.write("table", line + b"\n"))
         with mock.patch.object(severity, "SHIPPED", ("nowhere",)):
