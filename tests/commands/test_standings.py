@@ -209,7 +209,7 @@ class StandingsTest(mail.MailTest):
             ("OSError(28, 'no room')", b"no room"),
         ):
             failing = f"def Severity():\n    raise {fault}\n"
-            self.after_import("changes.weighing", "Severity\n" + failing)
+            self.after_import("changes.judged", "Severity\n" + failing)
             answer = self.call(TOOL, "--state", "state", "host-old.db", "host-new.db")
             want = [b"the changes are not judged: ", said]
             self.expect(f"no judgement by {fault}", answer, 4, b"Changed entries:", want)

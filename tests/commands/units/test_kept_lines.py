@@ -33,7 +33,7 @@ def read_back(*lines: Fields) -> list[str]:
 
 
 def read_bytes(data: bytes) -> list[str]:
-    return [outline.path.decode() for outline in kept_in(data).outlines()]
+    return [path.decode() for _, path, _, _ in kept_in(data).outlines()]
 
 
 def kept_in(data: bytes) -> KeptLines:
@@ -61,7 +61,7 @@ class KeptLinesTest(ModuleTest):
         """A file that was kept comes back with what it says of the changes that have no line."""
         judged = Judged(reader_over(stream_of(*SOUND)))
         kept = kept_in(b"".join(kept_lines.kept_lines(judged, ROOM)))
-        lines = [(each.line, each.kind, each.silent) for each in kept.outlines()]
+        lines = [(line, form.kind, form.account) for form, _, _, line in kept.outlines()]
         wanted = [(line_of(each), each["kind"], None) for each in SOUND]
         self.assertEqual((lines, kept.to_read), (wanted, 2))
         self.assertEqual(read_back({"format": 3}, *SOUND, END), ["/srv/a", "/srv/b"])

@@ -6,11 +6,11 @@ from typing import Any
 from tests.commands.units.calls import ModuleTest
 from tests.commands.units.streams import line_of
 
-from aide_compare.base.paths import key_of_path
-from aide_compare.changes.weighing import Known, Scales, is_content
+from aide_compare.changes.severity import Severity
+from aide_compare.changes.weighing import Known, is_content, known_of
 from aide_compare.lines.attributes import FORMS
 from aide_compare.lines.change import change_of
-from aide_compare.lines.reader import MAX_LINE, ByForm, Outline
+from aide_compare.lines.reader import MAX_LINE, Forms
 from aide_compare.lines.rights import differing, rights_of
 
 SAME = "f...........H....."
@@ -30,10 +30,10 @@ def fields_of(letters: str = SAME, **sides: dict[str, Any]) -> dict[str, Any]:
     return {"kind": kind, "path": PATH, "summary": letters, **sides}
 
 
-def weighed(scales: Scales, fields: dict[str, Any]) -> tuple[Known, int]:
-    path = PATH.encode()
-    line = line_of(fields)
-    return scales.weighed(Outline(fields["kind"], path, None, key_of_path(path), line))
+def weighed(forms: Forms, fields: dict[str, Any]) -> tuple[Known, int]:
+    """What is known of a line by its form, and its rank."""
+    known = forms.of(line_of(fields)).value(known_of)
+    return known, Severity().rank(PATH.encode(), known.held)
 
 
 class WeighingTest(ModuleTest):
@@ -55,42 +55,51 @@ class WeighingTest(ModuleTest):
 
     def test_order_of_sides(self) -> None:
         """A right that came weighs more than one that went."""
-        scales = Scales()
+        forms = Forms()
         set_id = {**NEW, "Perm": "4755"}
         letters = SAME[:4] + "p" + SAME[5:]
-        came = weighed(scales, fields_of(letters, old=OLD, new=set_id))
-        went = weighed(scales, fields_of(letters, old={**OLD, "Perm": "4755"}, new=NEW))
+        came = weighed(forms, fields_of(letters, old=OLD, new=set_id))
+        went = weighed(forms, fields_of(letters, old={**OLD, "Perm": "4755"}, new=NEW))
         self.assertLess(came[1], went[1])
         for side in (OLD, {**OLD, "Pad": "x" * MAX_LINE}):
-            again = weighed(scales, fields_of(letters, old=side, new=set_id))
+            again = weighed(forms, fields_of(letters, old=side, new=set_id))
             self.assertEqual(again, came, "known, or too long to be kept")
         self.assertEqual((came[0].party, came[0].asked), (0, ""))
 
     def test_remembered(self) -> None:
         """An access list in base 16 counts, although such rights without it came before."""
-        scales = Scales()
+        forms = Forms()
         plain = {"Type": "File", "Perm": "0644", "UID": 0, "GID": 0}
-        before = weighed(scales, fields_of(old=plain, new=plain))
-        listed = weighed(scales, fields_of(old=plain, new={**plain, "ACL_hex": "ff"}))
+        before = weighed(forms, fields_of(old=plain, new=plain))
+        listed = weighed(forms, fields_of(old=plain, new={**plain, "ACL_hex": "ff"}))
         self.assertLess(listed[1], before[1])
 
     def test_forms(self) -> None:
-        """Lines with other numbers or digests have one form, and none with another right."""
+        """Lines with other numbers or digests have one form, and none with another right; so says
+        what matches the lines of a frequent form, too."""
         pairs = {"number": (1, 2), "time": (1, 2), "digest": ("00", "11")}
         for label, form in FORMS.items():
-            forms = ByForm(len)
-            for value in pairs.get(form, ("aa", "bb")):
-                forms.of(line_of(fields_of(new={label: value})))
+            forms = Forms()
+            one, other = (
+                line_of(fields_of(new={label: value})) for value in pairs.get(form, ("aa", "bb"))
+            )
+            first = forms.of(one)
             is_one = form in pairs and label not in ("UID", "GID")
-            self.expect(label, len(forms.known), 1 if is_one else 2)
+            self.expect(label, forms.of(other) is first, is_one)
+            first.learn()
+            self.expect(
+                label, [first.match(line) is not None for line in (one, other)], [True, is_one]
+            )
+        first = forms.of(line_of({**fields_of(new=NEW), "left_out": 1}))
+        self.assertIsNot(forms.of(line_of({**fields_of(new=NEW), "left_out": 2})), first)
 
     def test_types(self) -> None:
         """Two types that have one word are no same one, whatever lines with this word came before."""
         socket = {**OLD, "Type": "Other"}
         pair = [fields_of(letters, old=socket, new=socket) for letters in (SAME, "!" + SAME[1:])]
         for first, then in (pair, pair[::-1]):
-            scales = Scales()
-            self.assertNotEqual(weighed(scales, first)[1], weighed(scales, then)[1])
+            forms = Forms()
+            self.assertNotEqual(weighed(forms, first)[1], weighed(forms, then)[1])
 
     def test_differing(self) -> None:
         """A right whose letter says no difference is no value of the change; all others stay."""
@@ -138,11 +147,11 @@ class WeighingTest(ModuleTest):
         self.expect("a digest on one side alone", is_content(more, False), False)
         self.expect("an entry that came", is_content(fields_of("f", new=NEW), False), True)
         unknown = {name: value for name, value in NEW.items() if name != "Perm"}
-        scales = Scales()
+        forms = Forms()
         old = {**unknown, "SHA256": "00"}
         for label, fields, is_it in (
             ("the same rights", fields_of(old=OLD, new=NEW), True),
             ("a mode that is not known", fields_of(old=old, new=unknown), False),
             ("another owner", fields_of(old=OLD, new={**NEW, "UID": 1}), False),
         ):
-            self.expect(label, weighed(scales, fields)[0].asked == "content", is_it)
+            self.expect(label, weighed(forms, fields)[0].asked == "content", is_it)

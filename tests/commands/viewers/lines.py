@@ -1,7 +1,6 @@
 """Calls of the commands that show changes in other forms, and of their modules."""
 from __future__ import annotations
 
-import io
 import json
 import os
 import subprocess
@@ -10,10 +9,12 @@ from typing import Any
 from tests.lib.programs import lines_program_of
 
 from aide_compare.base.ending import Fault, Status
+from aide_compare.base.files import in_memory
 from aide_compare.base.words import SEVERITIES
 from aide_compare.changes.table import Marks
+from aide_compare.compare.comparison import Lines
 from aide_compare.compare.work import failed_comparison
-from aide_compare.lines.reader import ENCODE, Reader
+from aide_compare.lines.reader import ENCODE, NOTHING_COUNTED
 from aide_compare.show.json_lines import added_lines
 from aide_compare.show.page import MAX_PAGE, Rows, page
 
@@ -31,7 +32,8 @@ def proved_lines(program: bytes, configuration: str) -> bytes:
 def objects_of(text: bytes) -> list[Fields]:
     """The objects of proved lines, as aide-compare json writes them, with the names that they
     have."""
-    _, *lines = added_lines(Reader(io.BytesIO(text)), NAMELESS, None)
+    NAMELESS.lines = Lines(in_memory(text), False, NOTHING_COUNTED)
+    _, *lines = added_lines(NAMELESS, None)
     return [json.loads(line) for line in (text.partition(b"\n")[0], *lines)]
 
 

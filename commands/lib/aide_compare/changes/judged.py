@@ -10,15 +10,17 @@ import os
 from collections import Counter
 from collections.abc import Iterator
 from functools import cached_property
+from itertools import islice
 
 from aide_compare.base.ending import Fault, Status
 from aide_compare.changes.packages import Dpkg, NamedPackages, Rpm
 from aide_compare.changes.recorded import Matcher
-from aide_compare.changes.table import Row, Table, Values
+from aide_compare.changes.severity import Severity
+from aide_compare.changes.table import NO_MARKS, Marks, Row, Table, Values
 from aide_compare.changes.usr import link_here, usr_of
-from aide_compare.changes.weighing import Scales, directory_of
-from aide_compare.lines.change import Change, Counts, change_of
-from aide_compare.lines.reader import Reader
+from aide_compare.changes.weighing import directory_of, known_of
+from aide_compare.lines.change import Change, Counts, Standing, change_of, silent_by
+from aide_compare.lines.reader import Forms, Reader
 
 
 class Judged:
@@ -27,7 +29,9 @@ class Judged:
     line before; its file is read again for the values of a change."""
 
     def __init__(self, reader: Reader) -> None:
+        self.reader = reader
         self.file = reader.file
+        self.begin = self.file.tell()  # Of the first change.
         self.named: NamedPackages = {}
         self.by = ""
         self.silent: Counter[str] = Counter()
@@ -39,27 +43,29 @@ class Judged:
 
     def _values(self, reader: Reader) -> Iterator[Values]:
         """Yields the values of the changes that are not silent, and counts the others."""
-        scales = Scales()
-        line_at = self.file.tell()
-        for outline in reader.outlines():
-            if outline.silent is None:
-                known, rank = scales.weighed(outline)
+        severity = Severity()
+        line_at = self.begin
+        for form, path, key, line in reader.outlines():
+            size = len(line)
+            silent = form.account and silent_by(form.account, path)
+            if silent is None:
+                known = form.value(known_of)
                 yield (
-                    bytearray(outline.key),
-                    bytearray(directory_of(outline.key)),
-                    outline.kind,
+                    bytearray(key),
+                    bytearray(directory_of(key)),
+                    form.kind,
                     known.owners,
-                    rank,
+                    severity.rank(path, known.held),
                     known.party,
                     known.asked,
                     line_at,
-                    len(outline.line),
+                    size,
                 )
             else:
-                self.silent[outline.silent.key] += 1
-                if outline.left_out:
-                    self.left_out[outline.left_out] += 1
-            line_at += len(outline.line)
+                self.silent[silent.key] += 1
+                if form.left_out:
+                    self.left_out[form.left_out] += 1
+            line_at += size
 
     @cached_property
     def counts(self) -> Counts:
@@ -79,6 +85,22 @@ class Judged:
             self.table.forget_records()
             raise
         self.by = records.by
+
+    def lines(self) -> Iterator[tuple[bytes, Marks]]:
+        """Yields the lines of all changes in the order of paths, with their marks."""
+        forms = Forms()
+        others = self.table.marks()
+        other = next(others, NO_MARKS)
+        self.file.seek(self.begin)
+        line_at = self.begin
+        for line in islice(self.file, self.changes):
+            if line_at == other[0]:
+                yield line, other[1]
+                other = next(others, NO_MARKS)
+            else:
+                account = forms.of(line).account or Standing.OPEN
+                yield line, Marks(account.value)
+            line_at += len(line)
 
     def line(self, row: Row) -> bytes:
         return os.pread(self.file.fileno(), row.line_size, row.line_at)

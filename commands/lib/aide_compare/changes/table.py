@@ -5,7 +5,7 @@ from __future__ import annotations
 from collections import Counter
 from collections.abc import Iterable, Iterator
 from functools import lru_cache
-from itertools import chain, islice, starmap
+from itertools import chain, islice
 from typing import NamedTuple
 
 from aide_compare.base.ending import Fault, Status
@@ -92,6 +92,7 @@ class Row(NamedTuple):
 
 
 COLUMNS = ", ".join(Row._fields)
+NO_MARKS = (0, Marks(""))  # Behind those of all.
 
 
 class Table(Rows):
@@ -117,10 +118,11 @@ class Table(Rows):
         question = f"select {COLUMNS} from changes where {condition} order by {order}"
         return map(Row._make, self.ask(question, *values))
 
-    def marks(self) -> Iterator[Marks]:
-        """Yields those of all, in the order of paths."""
-        question = "select standing, level, package from changes order by place"
-        return starmap(marks_of, self.ask(question))
+    def marks(self) -> Iterator[tuple[int, Marks]]:
+        """Yields where the lines of all begin, and their marks, in the order of paths."""
+        question = "select line_at, standing, level, package from changes order by place"
+        for line_at, *marks in self.ask(question):
+            yield line_at, marks_of(*marks)
 
     def row(self, place: int) -> Row:
         return next(self.rows("place = ?", place))

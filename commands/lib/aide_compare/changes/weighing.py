@@ -2,14 +2,14 @@
 of it."""
 from __future__ import annotations
 
+import json
 import re
 from typing import NamedTuple
 
 from aide_compare.base.database import SET_ID
 from aide_compare.base.paths import SLASH
-from aide_compare.changes.severity import Held, Severity, has_same_rights, held_by
+from aide_compare.changes.severity import Held, has_same_rights, held_by
 from aide_compare.lines.change import Fields
-from aide_compare.lines.reader import ByForm, Outline
 from aide_compare.lines.rights import ROOT, Side, owner_of, rights_of
 
 MAX_NUMBER = (1 << 63) - 1
@@ -22,7 +22,7 @@ TARGET = re.compile(r"[^!]...[. ]{3}....[. ]{7}")
 
 
 class Known(NamedTuple):
-    """What is the same of all changes whose lines have one form."""
+    """What a line says of how much its change matters: the same for all lines of its form."""
 
     held: Held
     owners: int  # The group of its owner.
@@ -65,8 +65,9 @@ def may_be_content(old: Side, new: Side) -> bool:
     return has_same_rights(old, new)
 
 
-def known_of(fields: Fields) -> Known:
-    """The same of the object of a line."""
+def known_of(line: bytes) -> Known:
+    """What is known by a line."""
+    fields = json.loads(line)
     old, new = rights_of(fields)
     owner = owner_of(old, new)
     asked = ""
@@ -85,16 +86,3 @@ def is_content(fields: Fields, is_link: bool) -> bool:
         form = TARGET
     is_one = form.fullmatch(fields["summary"]) is not None
     return is_one and fields["old"].keys() == fields["new"].keys()
-
-
-class Scales:
-    """Weighs the changes of lines. Most have the form of others."""
-
-    def __init__(self) -> None:
-        self.severity = Severity()
-        self.known = ByForm(known_of)
-
-    def weighed(self, outline: Outline) -> tuple[Known, int]:
-        """What is known of a change by its line, and its rank."""
-        known = self.known.of(outline.line)
-        return known, self.severity.rank(outline.path, known.held)

@@ -31,7 +31,7 @@ from aide_compare.commands.defaults import comparison_defaults
 from aide_compare.compare.comparison import Comparison
 from aide_compare.compare.state import State, read_state
 from aide_compare.compare.work import failed_comparison
-from aide_compare.lines.reader import Outline, Reader, Refused, reader_over
+from aide_compare.lines.reader import Reader, Refused, reader_over
 from aide_compare.mail.message import build, clean, host_name, subject_of
 from aide_compare.mail.sending import Transport, alert, deliver, queue_transport, send_all
 from aide_compare.mail.sending import sendmail_transport
@@ -167,10 +167,12 @@ def lines_of_mail(
     return text_of_changes(mail, judged)
 
 
-def whole_changes(reader: Reader) -> Iterator[Outline]:
-    """Changes as far as they are there: lines that were cut have no end."""
+def whole_changes(reader: Reader) -> Iterator[tuple[str, bytes]]:
+    """The kinds and paths of changes, as far as these are there: lines that were cut have no
+    end."""
     with suppress(Refused):
-        yield from reader.outlines()
+        for form, path, _, _ in reader.outlines():
+            yield form.kind, path
 
 
 def page_of(comparison: Comparison, judged: Judged | None, notes: list[str]) -> bytes | None:
@@ -178,11 +180,9 @@ def page_of(comparison: Comparison, judged: Judged | None, notes: list[str]) -> 
     why = "the changes are not known"
     if judged is not None:
         try:
-            from aide_compare.show.outputs import all_lines
             from aide_compare.show.page import page_of as parts_of
 
-            parts = parts_of(comparison, judged, all_lines(comparison), MAX_PAGE)
-            return b"".join(parts)
+            return b"".join(parts_of(comparison, judged, MAX_PAGE))
         except Exception as error:
             why = why_of(error)
     notes.append(f"{NAME}: there is no page: {why}")

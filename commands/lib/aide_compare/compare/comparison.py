@@ -15,7 +15,7 @@ from aide_compare.compare.configuration import NONE, ConfigurationTexts
 from aide_compare.compare.state import State
 from aide_compare.compare.unpack import Copy
 from aide_compare.lines.change import Counts
-from aide_compare.lines.reader import EndCounts
+from aide_compare.lines.reader import EndCounts, Reader, reader_over
 
 if TYPE_CHECKING:
     from aide_compare.compare.exclusions import Exclusions
@@ -94,6 +94,14 @@ class Comparison:
         if self.lines is None:
             raise Fault(Status.DEVICE, "nothing is known of the changes")
         return self.lines
+
+    def reader(self) -> Reader:
+        """A Reader of its lines; a Fault if they are too many to be all there."""
+        lines = self.known_lines()
+        if lines.is_cut:
+            limit = self.request.max_report
+            raise Fault(Status.DEVICE, f"the changes have more than {limit} bytes")
+        return reader_over(lines.fd)
 
     def fail(self, error: BaseException) -> None:
         """Something has ended it."""

@@ -10,9 +10,9 @@ import json
 from collections.abc import Iterable, Sequence
 
 from aide_compare.base.words import SIDES
-from aide_compare.changes.severity import RANKS
+from aide_compare.changes.severity import RANKS, Severity
 from aide_compare.changes.table import Row, Table
-from aide_compare.changes.weighing import Scales
+from aide_compare.changes.weighing import known_of
 from aide_compare.hosts.report_values import SharedChange
 from aide_compare.lines.attributes import FORMS
 from aide_compare.lines.change import Fields
@@ -69,32 +69,34 @@ class Fleet:
 
     def __init__(self, names: Sequence[str]) -> None:
         self.names = names
-        self.scales = Scales()
+        self.severity = Severity()
         self.table = Table()
         self.table.do(FOUND)
         self.table.do(INDEX)
 
     def add(self, host: int, outline: Outline) -> None:
         """Takes a change of the host with this number."""
-        known, rank = self.scales.weighed(outline)
-        fields = differing(json.loads(outline.line))
+        form, path, key, line = outline
+        known = form.value(known_of)
+        rank = self.severity.rank(path, known.held)
+        fields = differing(json.loads(line))
         own = OWN
         if fields.get("type") == "Directory":
             own = OWN | {"Size"}  # The size of a directory is one of these values, too.
         old = fields.get("old", {})
         new = fields.get("new", {})
         labels = {label_of(name) for name in (*old, *new)}
-        what = (outline.path.hex(), outline.kind, fields.get("type"), rank // RANKS, known.owners)
+        what = (path.hex(), form.kind, fields.get("type"), rank // RANKS, known.owners)
         row = (
             host,
-            outline.key,
+            key,
             digest_of(what, sorted(labels - own), without(new, own)),
-            outline.kind,
+            form.kind,
             known.owners,
             rank,
             digest_of(without(old, own)),
             ",".join(labels & own),
-            outline.line,
+            line,
         )
         self.table.do(INSERT, *row)
 

@@ -8,7 +8,6 @@ no flood hides all of a kind.
 """
 from __future__ import annotations
 
-import re
 from collections.abc import Iterator
 
 from aide_compare.base.ending import Fault, Status, write_blocks
@@ -71,17 +70,18 @@ class KeptLines(Reader):
     are not silent. What cannot be read is a Refused."""
 
     format = FORMAT
-    outline = re.compile(b"(?!)")  # A disk may have damaged a value, so the whole line is read.
+    is_proved = False  # A disk may have damaged a value.
     to_read = 0
 
     def _read_end(self, fields: Fields) -> None:
-        listed = sum(self._counted[kind] for kind in KINDS)
+        counted = self.counted()
+        listed = sum(counted[kind] for kind in KINDS)
         try:
             counts = Counts(**{name: fields[name] for name in Counts._fields})
             is_sound = counts.fits(counts.total) and fields["listed"] == listed <= counts.to_read
         except ODD:
             is_sound = False
-        has_silent = Standing.SAME in self._counted or Standing.LEFT_OUT in self._counted
+        has_silent = Standing.SAME.value in counted or Standing.LEFT_OUT.value in counted
         if not is_sound or has_silent or self.file.read(1):
             raise Refused(self.number, "the end does not fit the lines before it")
         self.to_read = counts.to_read

@@ -10,14 +10,14 @@ from collections import Counter
 from collections.abc import Callable, Iterator
 from contextlib import suppress
 from functools import partial
-from typing import Any, BinaryIO, Generic, NamedTuple, TypeVar
+from typing import Any, BinaryIO, NamedTuple, TypeVar
 
 from aide_compare.base.ending import Fault, Status
 from aide_compare.base.files import BLOCK
 from aide_compare.base.paths import SLASH, key_of_path
 from aide_compare.base.words import KINDS, SIDES, TRUSTED_SIDES, status_of_counts
-from aide_compare.lines.change import STANDING_BY_PROOF, LEFT_OUT, Fields, Standing, account_of
-from aide_compare.lines.change import change_of, left_out_by, silent_by
+from aide_compare.lines.change import LEFT_OUT, Fields, Standing, account_of, change_of
+from aide_compare.lines.change import left_out_by
 
 T = TypeVar("T")
 FORMAT = 4
@@ -29,24 +29,22 @@ HEX = "_hex"  # At the end of the name of a text in base 16.
 # What a member of another type, or one that is missing, raises.
 ODD = (ValueError, KeyError, TypeError, AttributeError)
 ENCODE = json.JSONEncoder(separators=(",", ":")).encode
-# The beginning of a line of aide_lines whose path is written as it is.
-OUTLINE = re.compile(
-    rb'\{"kind":"(added|removed|changed)","path":"(/[^"\\\x00-\x1f]*)","summary":"[^"\\]*"'
-    rb'(?:,"same_as":"(old|trusted)"|,"left_out":([1-9][0-9]{0,9}))?[,}]'
-)
-KIND_END = len(b'{"kind":"add')
+# A path that is written as it is, and the beginning of its line.
+PATH = rb'"path":"(/[^"\\\x00-\x1f]*)"'
+BEGINNING = re.compile(rb'\{"kind":"[a-z]+",' + PATH)
 AFTER_PATH = b',"summary":'
+KIND_END = len(b'{"kind":"add')
 # The numbers and the digests of a line, by the ends of the names of their attributes.
-VALUE = re.compile(rb':(?:(?<=[et]":)[0-9]+|(?<=[0-9BRT]":)"[^"]*"|(?<=[AO]L":)"[^"]*")')
+VALUE = re.compile(rb':(?:(?<=[et]":)(?<!_out":)[0-9]+|(?<=[0-9BRT]":)"[^"]*"|(?<=[AO]L":)"[^"]*")')
 MAX_FORMS = 1 << 10
 MAX_LINE = 1 << 11
-KINDS_BY_BYTES = {kind.encode(): kind for kind in KINDS}
-PROOFS = {proof.encode(): standing for proof, standing in STANDING_BY_PROOF.items()}
+FREQUENT = 16
+NO_MATCH = re.compile(b"(?!)").fullmatch
 # The counts of the end by the accounts of lines.
 COUNTED = {
-    Standing.SAME: "same_as_old",
-    Standing.TRUSTED: "same_as_trusted",
-    Standing.LEFT_OUT: LEFT_OUT,
+    Standing.SAME.value: "same_as_old",
+    Standing.TRUSTED.value: "same_as_trusted",
+    Standing.LEFT_OUT.value: LEFT_OUT,
 }
 
 
@@ -55,23 +53,70 @@ def embedded(fields: object) -> bytes:
     return ENCODE(fields).replace("<", "\\u003c").encode()
 
 
-class ByForm(Generic[T]):
-    """What is the same of all lines of one form, by their objects. The form of a line is its text
-    without its path, numbers and digests: no right is one of these, and most lines have the form of
-    many others. Those of long lines are not remembered, so that all have a bound."""
+class Form:
+    """What is the same of all lines of one form. The form of a line is its text without its path,
+    numbers and digests: no right is one of these, and most lines have the form of many others."""
 
-    def __init__(self, work: Callable[[Fields], T]) -> None:
-        self.work = work
-        self.known: dict[object, T] = {}
+    def __init__(self, line: bytes) -> None:
+        fields = json.loads(line)
+        self.line = line  # The first of them.
+        self.kind = change_of(fields).kind
+        self.account = account_of(fields)
+        self.left_out = left_out_by(fields)  # The number of the list's line, or 0.
+        self.counted = (self.kind, self.account.value if self.account else "")
+        self.times = 0  # How often it was looked for.
+        # If it is frequent: what matches its lines, with their paths and values.
+        self.match = NO_MATCH
+        self._values: dict[object, Any] = {}
 
-    def of(self, line: bytes) -> T:
-        form = (line[:KIND_END], VALUE.sub(b"", line.rpartition(AFTER_PATH)[2]))
-        value = self.known.get(form)
-        if value is None:
-            value = self.work(json.loads(line))
-            if len(self.known) < MAX_FORMS and len(line) <= MAX_LINE:
-                self.known[form] = value
+    def value(self, work: Callable[[bytes], T]) -> T:
+        """What a function says of the first of these lines. It is asked once."""
+        if work not in self._values:
+            self._values[work] = work(self.line)
+        value: T = self._values[work]
         return value
+
+    def learn(self) -> None:
+        """Finds out what matches its lines."""
+        begin = re.escape(b'{"kind":"%b",' % self.kind.encode())
+        rest = re.escape(AFTER_PATH + self.line.partition(AFTER_PATH)[2])
+        self.match = re.compile(begin + PATH + VALUE.sub(any_value, rest)).fullmatch
+
+
+def any_value(match: re.Match[bytes]) -> bytes:
+    """What matches a usual number, or a usual digest."""
+    if match.group().endswith(b'"'):
+        return b':"([0-9A-Za-z+/=]{1,128})"'
+    return b":(0|[1-9][0-9]{0,14})"
+
+
+class Forms:
+    """The forms of lines. Those of long lines, and of the last of very many, are not remembered, so
+    that all have a bound."""
+
+    def __init__(self) -> None:
+        self.known: dict[object, Form] = {}
+        self._last: Form | None = None
+
+    def of(self, line: bytes) -> Form:
+        """The form of a line; one of ODD if it says no change."""
+        if self._last is not None and self._last.match(line):
+            return self._last
+        text = (line[:KIND_END], VALUE.sub(b"", line.rpartition(AFTER_PATH)[2]))
+        form = self.known.get(text)
+        if form is None:
+            form = Form(line)
+            if len(self.known) < MAX_FORMS and len(line) <= MAX_LINE:
+                self.known[text] = form
+        form.times += 1
+        if form.times == FREQUENT:
+            form.learn()
+        self._last = form
+        return form
+
+
+# A change as a Reader gives it: its form, its path, the key of that, and its line.
+Outline = tuple[Form, bytes, bytes, bytes]
 
 
 class Refused(Fault):
@@ -79,17 +124,6 @@ class Refused(Fault):
 
     def __init__(self, number: int, words: str) -> None:
         super().__init__(Status.DEVICE, f"line {number}: {words}")
-
-
-class Outline(NamedTuple):
-    """What the beginning of a line says of a change."""
-
-    kind: str
-    path: bytes
-    silent: Standing | None  # None if it is not silent.
-    key: bytes  # Of the path.
-    line: bytes
-    left_out: int = 0  # The number of the list's line that leaves it out; 0 if none does.
 
 
 class EndCounts(NamedTuple):
@@ -142,61 +176,71 @@ class Reader:
     what the last line says, as `end`, its object, and `counts`."""
 
     format = FORMAT
-    outline = OUTLINE
+    is_proved = True  # Otherwise each value is looked at.
 
     def __init__(self, file: BinaryIO) -> None:
         self.file = file
         self.end: Fields = {}
         self.counts = NOTHING_COUNTED
-        self._counted: Counter[object] = Counter()  # By kind, and by account.
+        self._forms = Forms()
+        self._lines: Counter[tuple[str, str]] = Counter()  # By kind and account.
         self.number = 1
         self.summary = self._object_of(file.readline(LINE_LIMIT))
         if self.summary.get("format") != self.format:
             raise Refused(self.number, f"the first line is the summary, of format {self.format}")
 
     def outlines(self) -> Iterator[Outline]:
-        """The changes as far as the beginnings of most lines say them: their values are not looked
-        at."""
+        """The changes as far as the forms of their lines say them."""
         last = b""
+        match_form = NO_MATCH
         read = partial(self.file.readline, LINE_LIMIT)
         for self.number, line in enumerate(iter(read, b""), self.number + 1):
-            match = self.outline.match(line)
-            if match is not None and line.endswith(b"}\n"):
-                name, path, proof, number = match.groups()
-                kind = KINDS_BY_BYTES[name]
+            match = match_form(line)
+            if match is not None:
+                path = match[1]
                 key = path.replace(b"/", SLASH)
-                account = PROOFS.get(proof)
-                left_out = int(number or 0)
-                if left_out:
-                    account = Standing.LEFT_OUT
             else:
-                fields = self._object_of(line)
-                if "end" in fields:
-                    self._read_end(fields)
+                found = self._found(line)
+                if found is None:
                     return
-                try:
-                    change = change_of(fields)
-                    account = account_of(fields)
-                except ODD:
-                    raise Refused(self.number, "this is no change") from None
-                kind = change.kind
-                path = change.path
+                form, path = found
                 key = key_of_path(path)
-                left_out = left_out_by(fields)
+                match_form = form.match if self.is_proved else NO_MATCH
             if key <= last:
                 raise Refused(self.number, "the entry is not in the order of paths")
             last = key
-            self._counted[kind] += 1
-            self._counted[account] += 1
-            yield Outline(kind, path, account and silent_by(account, path), key, line, left_out)
+            self._lines[form.counted] += 1
+            yield form, path, key, line
         raise Refused(self.number, "this ends too early: the last line is missing")
+
+    def _found(self, line: bytes) -> tuple[Form, bytes] | None:
+        """The form and the path of a change; None of the last line."""
+        match = BEGINNING.match(line) if self.is_proved and line.endswith(b"}\n") else None
+        try:
+            if match is not None:
+                return self._forms.of(line), match[1]
+            fields = self._object_of(line)
+            if "end" not in fields:
+                return self._forms.of(line), change_of(fields).path
+        except ODD:
+            raise Refused(self.number, "this is no change") from None
+        self._read_end(fields)
+        return None
+
+    def counted(self) -> Counter[str]:
+        """How many changes there were of each kind, and with each account."""
+        counted: Counter[str] = Counter()
+        for words, lines in self._lines.items():
+            counted.update(dict.fromkeys(words, lines))
+        return counted
 
     def _read_end(self, fields: Fields) -> None:
         """Takes the last line, of which all counts are those of the lines before it."""
         try:
             counts = end_of(fields)
+            counted = self.counted()
             for key, name in (*zip(KINDS, KINDS), *COUNTED.items()):
-                if self._counted[key] != getattr(counts, name):
+                if counted[key] != getattr(counts, name):
                     raise ValueError
         except ODD:
             raise Refused(self.number, "the end does not fit the lines before it") from None

@@ -14,7 +14,6 @@ from aide_compare.base.files import is_name
 from aide_compare.base.words import KINDS
 from aide_compare.changes.judged import Judged
 from aide_compare.compare.state import State
-from aide_compare.lines.reader import Outline
 from aide_compare.mail.columns import WIDTH, command_lines, wrapped
 from aide_compare.show.brief import brief
 from aide_compare.show.digest import MAIL, shortened_path
@@ -77,21 +76,23 @@ def end_lines(mail: Mail) -> list[str]:
     return lines + notes
 
 
-def first_paths(changes: Iterable[Outline]) -> list[str]:
-    """The first paths of changes that nobody has judged, those that were removed or changed first,
-    and of each directory a few."""
+def first_paths(changes: Iterable[tuple[str, bytes]]) -> list[str]:
+    """The first paths of changes that nobody has judged, by their kinds and paths, those that were
+    removed or changed first, and of each directory a few."""
     listed: Counter[tuple[str, bytes]] = Counter()
     lines: dict[str, list[str]] = {"changed": [], "removed": [], "added": []}
-    for change in changes:
-        place = (change.kind, change.path.rpartition(b"/")[0])
-        if len(lines[change.kind]) < MAX_LINES and listed[place] < DIRECTORY_SHARE:
+    for kind, path in changes:
+        place = (kind, path.rpartition(b"/")[0])
+        if len(lines[kind]) < MAX_LINES and listed[place] < DIRECTORY_SHARE:
             listed[place] += 1
-            line = f"  {change.kind:<7}  "
-            lines[change.kind].append(line + shortened_path(change.path, WIDTH - len(line)))
+            line = f"  {kind:<7}  "
+            lines[kind].append(line + shortened_path(path, WIDTH - len(line)))
     return [line for each in lines.values() for line in each]
 
 
-def text_of_unjudged(mail: Mail, counts: Sequence[int], changes: Iterable[Outline]) -> list[str]:
+def text_of_unjudged(
+    mail: Mail, counts: Sequence[int], changes: Iterable[tuple[str, bytes]]
+) -> list[str]:
     """The lines of a mail about changes that nobody has judged: how many there are, and the first
     paths."""
     numbers = ", ".join(f"{count} {kind}" for count, kind in zip(counts, KINDS))

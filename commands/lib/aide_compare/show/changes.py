@@ -11,7 +11,6 @@ from aide_compare.lines.attributes import FORMS, STRENGTH, word_of
 from aide_compare.lines.change import Change, Value, change_of
 from aide_compare.lines.readable import texts_of
 from aide_compare.show.json_lines import marked_lines
-from aide_compare.show.outputs import all_lines
 
 if TYPE_CHECKING:
     from aide_compare.base.paths import Pattern
@@ -75,7 +74,7 @@ def changes_with_values(
 ) -> Iterator[bytes]:
     """The changes of the paths that a pattern means, each with its standing and its values."""
     is_there = False
-    for line, marks in marked_lines(all_lines(comparison), judged):
+    for line, marks in judged.lines() if judged else marked_lines(comparison.reader()):
         change = change_of(json.loads(line))
         if pattern.matches(change.path[1:].split(b"/")):
             lines = [f"{marks.standing} {marks.severity}".rstrip() + " "]

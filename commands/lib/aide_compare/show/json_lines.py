@@ -9,7 +9,7 @@ from typing import TYPE_CHECKING
 
 from aide_compare.base.words import SIDES, TRUSTED_SIDES
 from aide_compare.changes.table import Marks
-from aide_compare.lines.change import Fields, Standing
+from aide_compare.lines.change import Fields, Standing, silent_by
 from aide_compare.lines.reader import ENCODE, HEX, Reader
 
 if TYPE_CHECKING:
@@ -44,17 +44,11 @@ def end_of(reader: Reader, comparison: Comparison, judged: Judged | None) -> Fie
     return end
 
 
-def marked_lines(reader: Reader, judged: Judged | None) -> Iterator[tuple[bytes, Marks]]:
-    """The lines of a Reader, each with the standing of its change, and with what is known of it if
-    the changes were judged."""
-    marks = judged.table.marks() if judged else None
-    for outline in reader.outlines():
-        if outline.silent:
-            yield outline.line, Marks(outline.silent.value)
-        elif marks:
-            yield outline.line, next(marks)
-        else:
-            yield outline.line, Marks(Standing.OPEN.value)
+def marked_lines(reader: Reader) -> Iterator[tuple[bytes, Marks]]:
+    """The lines of a Reader, each with the standing of its change, as far as the line has it."""
+    for form, path, _, line in reader.outlines():
+        silent = form.account and silent_by(form.account, path)
+        yield line, Marks((silent or Standing.OPEN).value)
 
 
 def line_of(fields: Fields) -> bytes:
@@ -70,9 +64,10 @@ def marked_line(line: bytes, marks: Marks) -> bytes:
     return line[: -len(b"}\n")] + marks.members() + b"\n"
 
 
-def added_lines(reader: Reader, comparison: Comparison, judged: Judged | None) -> Iterator[bytes]:
+def added_lines(comparison: Comparison, judged: Judged | None) -> Iterator[bytes]:
     """Yields the lines of a comparison with what is added."""
+    reader = judged.reader if judged else comparison.reader()
     yield line_of(summary_of(reader.summary, comparison))
-    for line, marks in marked_lines(reader, judged):
+    for line, marks in judged.lines() if judged else marked_lines(reader):
         yield marked_line(line, marks)
     yield line_of(end_of(reader, comparison, judged))

@@ -6,14 +6,13 @@ from aide_compare.base.words import TRUSTED_SIDES
 from aide_compare.changes.judged import Judged
 from aide_compare.changes.packages import records_of_host
 from aide_compare.compare.comparison import Comparison
-from aide_compare.show.outputs import all_lines
 
 
 def judge(comparison: Comparison) -> Judged | None:
     """The changes of a comparison, which gets their standings. If they cannot be judged, a doubt
     says why, and without standings every change is an alarm."""
     try:
-        judged = Judged(all_lines(comparison))
+        judged = Judged(comparison.reader())
         group(comparison, judged)
         comparison.standings = judged.counts
     except Exception as error:  # A fault here must not cost the alarm.

@@ -5,10 +5,8 @@ from __future__ import annotations
 from collections.abc import Callable, Iterable
 from typing import TYPE_CHECKING, NamedTuple
 
-from aide_compare.base.ending import Fault, Status
 from aide_compare.base.kinds import some_text
 from aide_compare.base.options import Option
-from aide_compare.lines.reader import Reader, reader_over
 
 if TYPE_CHECKING:
     from aide_compare.changes.judged import Judged
@@ -25,25 +23,16 @@ class OutputRow(NamedTuple):
     make: Maker
 
 
-def all_lines(comparison: Comparison) -> Reader:
-    """The lines of a comparison; a Fault if they are too many to be all there."""
-    lines = comparison.known_lines()
-    if lines.is_cut:
-        limit = comparison.request.max_report
-        raise Fault(Status.DEVICE, f"the changes have more than {limit} bytes")
-    return reader_over(lines.fd)
-
-
 def json_lines(comparison: Comparison, judged: Judged | None) -> Iterable[bytes]:
     from aide_compare.show.json_lines import added_lines
 
-    return added_lines(all_lines(comparison), comparison, judged)
+    return added_lines(comparison, judged)
 
 
 def page(comparison: Comparison, judged: Judged | None) -> Iterable[bytes]:
     from aide_compare.show.page import page_of
 
-    return page_of(comparison, judged, all_lines(comparison))
+    return page_of(comparison, judged)
 
 
 def row(name: str, what: str, make: Maker) -> OutputRow:

@@ -30,7 +30,7 @@ from aide_compare.lines.change import (
     change_of,
 )
 from aide_compare.lines.readable import texts_of
-from aide_compare.lines.reader import AFTER_PATH, HEX, ByForm, Reader, embedded
+from aide_compare.lines.reader import AFTER_PATH, HEX, Forms, embedded
 from aide_compare.lines.rights import differing
 from aide_compare.show.json_lines import marked_lines
 from aide_compare.show.brief import brief_of
@@ -140,9 +140,9 @@ def labels_of(*sides: Iterable[str]) -> str:
     return " ".join(label for label in FORMS if label in names)
 
 
-def labels_in(fields: Fields) -> bytes:
-    """The same by the object of its line, as a part of JSON."""
-    fields = differing({**fields, "kind": "changed"})
+def labels_in(line: bytes) -> bytes:
+    """The same by its line, as a part of JSON."""
+    fields = differing({**json.loads(line), "kind": "changed"})
     return embedded(labels_of(*(fields.get(side, ()) for side in SIDES)))
 
 
@@ -165,7 +165,7 @@ class Rows:
 
     def __init__(self) -> None:
         self.file = private_file()  # Of each change a line with its head, and then its own line.
-        self.labels = ByForm(labels_in)
+        self.forms = Forms()
         self.size = 0  # Of all heads.
         self.count = 0
         self.listed = 0
@@ -177,7 +177,7 @@ class Rows:
             place = DECODE(row.decode() + "}")[0]
             path = shown(bytes_of(place, "path"))
             row = b'{"kind":%b,"path":%b' % (embedded(place["kind"]), embedded(path))
-        row += b',"labels":%b' % self.labels.of(line) + marks.members()
+        row += b',"labels":%b' % self.forms.of(line).value(labels_in) + marks.members()
         self.file.write(row + b"\n" + line)
         self.size += len(row) + BESIDE
         self.count += 1
@@ -215,15 +215,14 @@ class Rows:
         return remarks
 
 
-def lines_in_order(judged: Judged | None, reader: Reader) -> Iterator[tuple[bytes, Marks]]:
+def lines_in_order(judged: Judged) -> Iterator[tuple[bytes, Marks]]:
     """The lines of all changes with their marks, those that are read first before the others."""
-    if judged is not None:
-        table = judged.table
-        for row in chain(table.rows(LISTED), table.rows(RECORDED, order=BY_PACKAGE)):
-            yield judged.line(row), row.marks
-    if judged is None or judged.counts.silent:
-        for line, marks in marked_lines(reader, None):
-            if judged is None or marks.standing != Standing.OPEN.value:
+    table = judged.table
+    for row in chain(table.rows(LISTED), table.rows(RECORDED, order=BY_PACKAGE)):
+        yield judged.line(row), row.marks
+    if judged.counts.silent:
+        for line, marks in judged.lines():
+            if not marks.severity:
                 yield line, marks
 
 
@@ -257,11 +256,11 @@ def heading_of(comparison: Comparison, rows: Rows, title: str) -> Fields:
 
 
 def page_of(
-    comparison: Comparison, judged: Judged | None, reader: Reader, limit: int = MAX_PAGE
+    comparison: Comparison, judged: Judged | None, limit: int = MAX_PAGE
 ) -> Iterator[bytes]:
-    """The page of a comparison, whose lines a Reader has."""
+    """The page of a comparison."""
     rows = Rows()
-    for line, marks in lines_in_order(judged, reader):
+    for line, marks in lines_in_order(judged) if judged else marked_lines(comparison.reader()):
         rows.add(line, marks)
     title = shown(f"File changes on {os.uname().nodename}")
     digest = brief_of(judged).decode() or "No differences\n"
