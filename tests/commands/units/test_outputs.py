@@ -1,13 +1,15 @@
-"""The places that a path means."""
+"""The places that a path means, and the values of a page."""
 from __future__ import annotations
 
 import fcntl
 import os
 
 from tests.commands.units.calls import PlacesTest
+from tests.commands.units.streams import fields_of, line_of
 
 from aide_compare.base.files import blocks_of, in_memory
 from aide_compare.compare import outputs
+from aide_compare.show.page import Rows, values_in
 
 
 def put(path: str, text: bytes, mode: int = 0o600) -> None:
@@ -48,3 +50,17 @@ class OutputsTest(PlacesTest):
             self.assertEqual(self.read("it"), b"text")
             self.fails(18, "No such file", put, self.path("none/it"), b"x", mode)
         self.assertFalse(os.path.exists(self.path("none")))
+
+    def test_values(self) -> None:
+        """The values of a frequent form are those of the line itself, however odd one of them."""
+        rows = Rows()
+        usual = fields_of("/a", "changed", old={"Size": 0, "SHA256": "00"}, new={"MD5": "+/="})
+        odd: list[dict[str, object]] = [
+            {"MD5": text} for text in ("<b>", "\\", "\u202e", "%b", "", "x" * 200000)
+        ]
+        odd += [{"Size": number} for number in (1 << 53, 10**14, -1, "7")]
+        odd += [{"Lname": text} for text in ("100000000000000", "%b", "x")]
+        for old in (usual["new"], *odd):
+            lines = [line_of({**usual, "old": old})] * 17
+            for line in (*lines, line_of({**usual, "old": {"MD5": "7", "Size": 7}})):
+                self.assertEqual(rows._values(line), values_in(line))

@@ -30,7 +30,7 @@ from aide_compare.lines.change import (
     change_of,
 )
 from aide_compare.lines.readable import texts_of
-from aide_compare.lines.reader import AFTER_PATH, HEX, Forms, embedded
+from aide_compare.lines.reader import AFTER_PATH, HEX, VALUE, Forms, embedded
 from aide_compare.lines.rights import differing
 from aide_compare.show.json_lines import marked_lines
 from aide_compare.show.brief import brief_of
@@ -64,6 +64,10 @@ MAX_NOTES = 20
 BESIDE = len(b"[,],\n")
 # The beginning of a line whose path is printable ASCII of which nothing is escaped, in a row too.
 PLAIN = re.compile(rb'\{"kind":"[a-z]+","path":"/[ !#-;=-\[\]-~]{,4000}"')
+# Numbers in place of values, by which it is seen where these are put.
+MARK = 10**14
+MARKS = re.compile(b"10{11}[0-9]{3}")
+VALUE_TEXT = re.compile(b'[^:"]+')
 # Of a value of a host.
 MAX_VALUE = 100000
 MAX_NUMBER = 1 << 53  # A script would round it.
@@ -152,6 +156,23 @@ def both_values(change: Change) -> Fields:
     return {"old": values_of(change.old, texts.old), "new": values_of(change.new, texts.new)}
 
 
+def values_in(line: bytes) -> bytes:
+    """The values of a change by its line, as a part of JSON."""
+    return embedded(both_values(change_of(json.loads(line))))
+
+
+def values_like(line: bytes) -> bytes:
+    """The same of all lines of its form, with %b for each number and digest; nothing if one of them
+    is not put there as it is."""
+    marks = [b"%d" % number for number in range(MARK, MARK + len(VALUE.findall(line)))]
+    each = iter(marks)
+    marked = VALUE.sub(lambda match: VALUE_TEXT.sub(next(each), match.group()), line)
+    text = values_in(marked)
+    if MARKS.findall(text) != marks:
+        return b""
+    return MARKS.sub(b"%b", text.replace(b"%", b"%%"))
+
+
 def row_of(change: Change, marks: Fields) -> list[Fields]:
     """The row of a change: what is always there with some marks, and its values."""
     labels = labels_of(change.old, change.new)
@@ -195,12 +216,20 @@ class Rows:
                 return
             self.listed += 1
             if for_values >= 0:
-                values = embedded(both_values(change_of(json.loads(line))))
+                values = self._values(line)
                 for_values -= len(values)
                 if for_values >= 0:
                     self.valued += 1
                     row += b"," + values
             yield b"[%s]" % row
+
+    def _values(self, line: bytes) -> bytes:
+        form = self.forms.of(line)
+        match = form.match(line)
+        text = form.value(values_like) if match else b""
+        if match and text:
+            return text % match.groups()[1:]
+        return values_in(line)
 
     def remarks(self) -> list[str]:
         """What is missing."""
