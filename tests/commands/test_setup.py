@@ -221,7 +221,9 @@ class SetupTest(CommandTest):
         there = {path for path in owners if path.startswith((DATABASES, "root/etc/aide-compare/"))}
         self.assertEqual(there, made)
         self.assertEqual(set(owners.values()), {0}, "all of it is root's")
-        self.set_up("nothing is missing there", ("--check",), 0, b"nothing is missing")
+        for before in (None, AS_NOBODY):  # Who may not look into the directory of the databases.
+            answer = self.call(TOOL, "--check", before=before)
+            self.expect("nothing is missing there", answer, 0, b"nothing is missing\n", b"")
         line = f"--databases {databases}aide.db.gz {databases}aide.db.new.gz"
         self.assertIn(line, self.read(DEFAULTS).decode().splitlines())
 

@@ -12,7 +12,7 @@ from typing import NamedTuple
 
 from aide_compare.base.ending import Fault, Status, tell
 from aide_compare.base.escapes import shown
-from aide_compare.base.files import reopened
+from aide_compare.base.files import is_missing, reopened
 from aide_compare.base.replacement import replace
 from aide_compare.base.directories import closed_after, open_directory
 from aide_compare.base.options import DATABASES, QUIET, TO, Asked, field, option
@@ -220,7 +220,7 @@ class Machine:
         if not (self.request.no_mail or self.request.is_check):
             yield Step(f"a test mail to {self.reader()}", False, self.send_test)
         title = f"the baseline {shown(self.baseline)}, which takes several minutes"
-        yield Step(title, os.path.lexists(self.baseline), self.make_baseline)
+        yield Step(title, not is_missing(self.baseline), self.make_baseline)
         for path in filter(os.path.lexists, (self.baseline, self.new)):
             title = f"the owner of {shown(path)}: {user}"
             yield Step(title, self.owns(path), partial(self.give, path))
