@@ -38,7 +38,8 @@ STEP = 32
 # What people read first. Of one severity that is what is root's, then what is a service's; what the
 # fewest of many hosts have; what the first line of the table of severities means, such as set-ID
 # bits; what was removed or changed before what was added; and then the path has the last word.
-ORDER = "level, owners, hosts, rank, kind = 'added', place"
+ORDER_OF_PART = "hosts, rank, kind = 'added', place"
+ORDER = f"level, owners, {ORDER_OF_PART}"
 LISTED = "standing = 'open'"
 RECORDED = "standing = 'recorded'"
 # What is recorded, package by package.

@@ -16,7 +16,7 @@ from typing import Any, NamedTuple
 from aide_compare.base.escapes import shown
 from aide_compare.base.paths import path_of
 from aide_compare.base.words import SEVERITIES
-from aide_compare.changes.table import LISTED, ORDER, Row, Table
+from aide_compare.changes.table import LISTED, ORDER_OF_PART, Row, Table
 from aide_compare.lines.change import Change
 from aide_compare.show.entry import entry_words
 
@@ -26,7 +26,7 @@ MIN_WIDTH = 27  # Of a path, however little room there is.
 SIZE = re.compile(" [0-9]+ bytes$")
 # What open changes of one severity and one group of owners have in common.
 PART = f"{LISTED} and level = ? and owners = ?"
-IN_ORDER = f"select place, party, site from changes where {PART} order by {ORDER}"
+IN_ORDER = f"select place, party, site from changes where {PART} order by {ORDER_OF_PART}"
 SIZES = f"select level, owners, count(*), count(*) from changes where {LISTED} group by 1, 2"
 # The same, and how many of them are among the first of a host.
 SIZES_OF_HOSTS = f"""
