@@ -1,4 +1,4 @@
-"""The bounds of the table of changes, and its failures."""
+"""The bounds of the table of changes, its failures, and what a text lists of it."""
 from __future__ import annotations
 
 import sqlite3
@@ -13,11 +13,12 @@ from aide_compare.changes import table as tables
 from aide_compare.changes.severity import RANKS
 from aide_compare.changes.table import Table, Values
 from aide_compare.changes.weighing import directory_of, group_of_owner, party_of
+from aide_compare.show.digest import MAIL, digest
 
 
-def change(path: bytes) -> Values:
+def change(path: bytes, owner: int = 0, severity: str = "high") -> Values:
     key = key_of_path(path)
-    place = (group_of_owner(0), SEVERITIES.index("high") * RANKS, party_of(0))
+    place = (group_of_owner(owner), SEVERITIES.index(severity) * RANKS, party_of(owner))
     return bytearray(key), bytearray(directory_of(key)), "changed", *place, "", 0, 0
 
 
@@ -42,3 +43,14 @@ class TableTest(ModuleTest):
         self.fails(18, "no such table", table.do, "delete from odd")
         with mock.patch.object(sqlite3, "connect", side_effect=sqlite3.OperationalError("why")):
             self.fails(18, "name another directory by TMPDIR): why", Table)
+
+    def test_few(self) -> None:
+        """Of a directory of a user a mail lists a few changes of severity low, and no later ones
+        because he has many."""
+        places = [f"{number // 7}/{number % 7}" for number in range(35)]
+        changes = [change(f"/home/{place}".encode(), 1000, "low") for place in places]
+        parts = digest(table_of(*changes), MAIL._replace(height=40), lambda *_: "")
+        listed = [row.path.decode()[-3:] for part in parts for row in part.rows]
+        # Behind ten of two directories are the others, as many of each again.
+        wanted = [place for place in places if place[0] == "1" or place[-1] < "5"]
+        self.assertEqual(listed, wanted)

@@ -142,13 +142,16 @@ def chosen(table: Table, level: int, owners: int, limit: int, room: Room) -> lis
     for place, party, site in table.ask(IN_ORDER, level, owners):
         if len(first) == limit:
             break
+        # Root is no party, and neither is a host.
+        is_later = bool(party) and spent[party] == room.party
+        turn = (site, is_later)
+        if turns[turn] == room.few[level]:
+            continue
+        turns[turn] += 1
         kept = later
-        if not party or spent[party] < room.party:  # Root has none, and neither has a host.
+        if not is_later:
             spent[party] += 1
-            turns[site] += 1
-            if turns[site] > room.few[level]:
-                continue
-            kept = first if turns[site] <= room.first else more
+            kept = first if turns[turn] <= room.first else more
         if len(kept) < limit:
             kept.append(place)
     return [*first, *more, *later][:limit]
