@@ -231,12 +231,14 @@ class MailTest(mail.MailTest):
         return mail.body(mail.sent(self)).decode().split("\n")
 
     def test_too_many(self) -> None:
-        """Of more packages than there are lines for, the others are counted."""
+        """Of more packages than there are lines for, the others are counted. No line is long."""
         host = Host()
         for number in range(1000):
-            name, path = b"package-%04d" % number, b"/usr/share/%04d" % number
-            host.new.file(INFO + name + b".list", TWO).file(path, TWO)
-            host.packages.append(Package(name.decode(), "1", {path: TWO}))
+            name = b"package-%04d" % number
+            files = {b"/etc/cron.d/%d%026d" % (at, number): TWO for at in range(3)}
+            for path in (*files, INFO + name + b".list"):
+                host.new.file(path, TWO)
+            host.packages.append(Package(name.decode(), "1", files))
         lines = self.lines(host)
         self.assertRegex("\n".join(lines), r"\n  and \d+ packages more: ")
         named = lines[1 : lines.index("")]

@@ -21,7 +21,7 @@ from aide_compare.lines.change import Change
 from aide_compare.show.entry import entry_words
 
 MAX_LETTERS = 400  # Of a path in a line of any width.
-MIN_WIDTH = 27  # Of a path, however little room there is.
+MIN_WIDTH = 24  # Of a path, however little room there is.
 # What a line without room leaves out first of a new entry, whose mode says more.
 SIZE = re.compile(" [0-9]+ bytes$")
 # What open changes of one severity and one group of owners have in common.
