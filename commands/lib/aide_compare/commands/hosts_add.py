@@ -26,8 +26,8 @@ Fetches the first database of each HOST by ssh, which asks for itself if it does
 HOST. Then it shows the SHA-256 of the database, and asks. After yes the database is the baseline,
 and HOST is in the file of hosts. With a SHA-256 nothing is asked."""
 EPILOG = """Status, the highest of all hosts: 0 HOST is watched; 15 bad arguments, or no terminal;
-18 nothing was fetched; 24 the answer was no, it is another database, there is a baseline of HOST
-already, or it sent no sound database."""
+18 HOST was not fetched or not added; 24 the answer was no, it is another database, there is a
+baseline of HOST already, or it sent no sound database."""
 
 
 class AddRequest(Asked):

@@ -53,7 +53,7 @@ silent, above 7 some host was not compared. 15, 18 or 22 if the command itself f
 class ReportRequest(Asked):
     """What the options ask for."""
 
-    is_quiet: bool = field(QUIET, help="print nothing if no host differs and each was compared")
+    is_quiet: bool = field(QUIET, help="print nothing if there is nothing to report")
     store: str = field(HOST_STORE, help=f"where the reports are kept ({STORE})")
     max_age: int = field(
         RESULT_AGE,
@@ -67,7 +67,7 @@ class ReportRequest(Asked):
     )
     address: str | None = field(
         TO,
-        help="mail the brief text, if a host differs or was not compared",
+        help="mail the brief text, if there is something to report",
     )
     has_page: bool = field(ATTACH_PAGE, help="with --to: attach the page to the text")
     mail_seconds: int = field(MAIL_TIME)
