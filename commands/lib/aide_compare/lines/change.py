@@ -28,7 +28,7 @@ class Standing(Enum):
 
     SAME = "same"  # The entry is as it was, but for what its host makes of it, such as times.
     TRUSTED = "trusted"  # A machine, or a signed archive, that is trusted changed in the same way.
-    LEFT_OUT = "left out"  # A line of the administrator's list names it, and it gives no right.
+    LEFT_OUT = "left out"  # A line of the administrator's list names it, and nothing forbids it.
     RECORDED = "recorded"  # A package's records on the host have this content, unsigned.
     OPEN = "open"  # All else.
 
