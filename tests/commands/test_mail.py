@@ -7,7 +7,8 @@ import os
 import time
 from typing import Any
 
-from .mail import COUNTS, SUBJECT, MailTest, body, call, check_size, sent, subject, words_of
+from .mail import COUNTS, SUBJECT, TOOL, MailTest
+from .mail import body, call, check_size, sent, subject, words_of
 from .sandbox import NEW, OLD, sha256
 from .test_without import list_database
 from tests.commands.viewers.pages import data_in, heads_in
@@ -67,6 +68,9 @@ class TextsTest(MailTest):
         for words in (*addresses, ["--weekly=Foo"], ["--mail-time", "x"], ["more"]):
             answer = call(self, "old.db", "new.db", *words)
             self.assertEqual((answer.status, sent(self)), (15, None), (words, answer))
+        said = b"only one output can be standard output"
+        self.refused(15, said, TOOL, "--json=-", "--page=-", "old.db", "new.db", state="state")
+        self.assertIn(said, body(sent(self)))
 
     def test_changed_list(self) -> None:
         """A list that was changed since the baseline is mailed even if nothing differs; the same

@@ -61,6 +61,7 @@ DESCRIPTION = """Compares two AIDE databases, plain or compressed by gzip, and p
 the most severe first; show prints the change of one path, json lines of JSON, page a page, and
 --report the report as AIDE does."""
 TRY = "try: aide-compare compare --help"
+ONE_OUTPUT = "only one output can be standard output"
 USAGE = "aide-compare [compare | json | page] [OPTIONS] [OLD NEW]"
 EPILOG = """\
 Times are as in 90s, 15m, 26h or 3d; a plain number is seconds. Sizes are in bytes, or as in
@@ -115,6 +116,11 @@ class CompareRequest(Asked):
         places = {row.option.name: vars(self)[row.option.attribute] for row in OUTPUTS}
         return {name: path for name, path in places.items() if path}
 
+    @property
+    def outputs_on_stdout(self) -> int:
+        """How many further outputs have standard output as their place."""
+        return [descriptor_of(path) for path in self.outputs.values()].count(STDOUT)
+
 
 def given_by(arguments: Sequence[str], usage: str = USAGE) -> Given:
     """What the arguments give."""
@@ -153,6 +159,8 @@ def work_request(request: CompareRequest) -> ComparisonInput:
         raise Fault(Status.USAGE, "no databases are named", ADVICE)
     if [*request.databases, *request.trusted].count("-") > 1:
         raise Fault(Status.USAGE, "standard input can hold only one database")
+    if request.outputs_on_stdout > 1:
+        raise Fault(Status.USAGE, ONE_OUTPUT)
     old, new = request.databases
     return ComparisonInput(
         old=old,
@@ -316,10 +324,9 @@ NOTHING = ""
 
 def form_of(request: CompareRequest) -> str:
     """What standard output gets: nothing if it is the place of an output."""
-    others = [descriptor_of(path) for path in request.outputs.values()].count(STDOUT)
-    if others > 1 or (others and (request.wants_report or request.only)):
-        raise Fault(Status.USAGE, "only one output can be standard output")
-    if others:
+    if request.outputs_on_stdout:
+        if request.wants_report or request.only:
+            raise Fault(Status.USAGE, ONE_OUTPUT)
         return NOTHING
     if request.only:
         return ONLY
