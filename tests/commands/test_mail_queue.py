@@ -18,15 +18,23 @@ ENDS = {"Success": "mail", "Failure": "failed"}
 
 class QueueTest(MailTest):
     def test_missing(self) -> None:
-        """Without sendmail the status is 18, and the state is that of the comparison."""
+        """Without sendmail the status is 18, the system log has a line at priority alert, and the
+        state is that of the comparison."""
         os.remove(self.path("stubs/sendmail"))
         self.set_names("mail.sending", MAILERS=())
         path = {"PATH": self.path("stubs") + ":/usr/bin:/bin"}
-        for new, status in (("new.db", "7"), ("old.db.gz", "0")):
-            answer = call(self, "old.db", new, "--state", "state", environment=path)
-            said = [b"cannot find sendmail", b"ended with status " + status.encode()]
-            self.expect("no mailer, " + new, answer, 18, b"", said)
-            self.assertEqual(self.state()["status"], status, "the state without a mailer")
+        for words, said, news in (
+            ("old.db new.db --state 7", b"ended with status 7", COUNTS),
+            ("old.db old.db.gz --state 0", b"ended with status 0", "no difference"),
+            ("--send-queue queue", b"", "what waits stays in queue"),
+            ("--send-queue queue --unit-failed x", b"", "x failed. Its lines: journalctl -u x"),
+        ):
+            with logging(self) as lines:
+                answer = call(self, *words.split(), environment=path)
+            self.expect(words, answer, 18, b"", [b"cannot find sendmail", said])
+            self.assertRegex(lines[0].decode(), f"<33>aide-compare mail: cannot find .*{news}")
+        for status in ("7", "0"):
+            self.assertEqual(self.state(status)["status"], status, "the state without a mailer")
 
     def test_journal(self) -> None:
         """Without any mail, a line at priority alert goes to the system log, or to systemd's

@@ -193,11 +193,16 @@ WEEK = 7 * 86400
 TEST_TEXT = "This is a test of aide-compare mail. Mails of this host arrive.\n"
 
 
-def transport_for(request: MailRequest) -> Transport:
-    """The way of a mail; none leaves before that is there."""
-    if request.queue:
-        return queue_transport(request.queue)
-    return sendmail_transport(request.seconds)
+def transport_for(request: MailRequest, news: str) -> Transport:
+    """The way of a mail; none leaves before that is there. Without it the system log has the
+    news."""
+    try:
+        if request.queue:
+            return queue_transport(request.queue)
+        return sendmail_transport(request.seconds)
+    except Fault as fault:
+        alert(f"{fault.text}; {news}")
+        raise
 
 
 def short_mail(request: MailRequest, subject: str, text: str) -> bytes:
@@ -248,10 +253,8 @@ def columns_before(request: MailRequest) -> Sequence[str] | None:
 def compare_and_mail(request: MailRequest) -> int:
     state, message = compared(request)
     try:
-        way = transport_for(request)
+        way = transport_for(request, subject_of(state) if state.status else "no difference")
     except Fault as fault:
-        subject = subject_of(state) if state.status else "no difference"
-        alert(f"{fault.text}; {subject}")
         raise Fault(fault.status, f"{fault.text}; the comparison ended with status {state.status}")
     if message:
         deliver(way, message)
@@ -269,15 +272,17 @@ def failure_text(unit: str) -> str:
     later say how, by variables, but give no status if what runs before the comparison failed."""
     result = os.environ.get("MONITOR_SERVICE_RESULT")
     how = f": {result}, status {os.environ.get('MONITOR_EXIT_STATUS', 'unknown')}" if result else ""
-    return f"{unit} failed{how}. Its lines: journalctl -u {shlex.quote(unit)}\n"
+    return f"{unit} failed{how}. Its lines: journalctl -u {shlex.quote(unit)}"
 
 
 def empty_queue(request: MailRequest, directory: str) -> int:
     """Sends what waits, and first that the unit that should have queued a mail has failed."""
-    way = transport_for(request)
+    news = f"what waits stays in {directory}"
     if request.unit_failed:
-        text = failure_text(request.unit_failed)
-        deliver(way, short_mail(request, "the comparison failed", text))
+        news = failure_text(request.unit_failed)
+    way = transport_for(request, news)
+    if request.unit_failed:
+        deliver(way, short_mail(request, "the comparison failed", f"{news}\n"))
     send_all(directory, way)
     return Status.OK
 
@@ -291,6 +296,6 @@ def main(arguments: Sequence[str]) -> int:
     if request.send_queue:
         return empty_queue(request, request.send_queue)
     if request.is_test:
-        deliver(transport_for(request), short_mail(request, "test", TEST_TEXT))
+        deliver(transport_for(request, "a test"), short_mail(request, "test", TEST_TEXT))
         return Status.OK
     return compare_and_mail(request)
