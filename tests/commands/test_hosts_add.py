@@ -9,7 +9,6 @@ import signal
 import socket
 import subprocess
 import termios
-from collections.abc import Container
 
 from tests.lib.answer import Answer
 from tests.lib.waiting import until
@@ -20,6 +19,9 @@ from .test_fleet import DIFFERS, Fleet
 PROMPT = b"yes or no: "
 SSH_PROMPT = b"(yes/no/[fingerprint])? "
 SSHD = "/usr/sbin/sshd"
+LOCK = "hosts/www/lock"
+WATCHED = {"etc-hosts": "www\n", LOCK: "", "states/www": ""}
+WATCHED.update(dict.fromkeys(("hosts/www/aide.db", "hosts/www/aide.db.new"), OLD.decode()))
 # It asks for a key where no way to log in is tried, and knows it then.
 SSH = """way=
 while [ "${1#-}" != "$1" ]; do
@@ -60,16 +62,16 @@ def add(
     return Answer(text, b"", status)
 
 
-def files(sandbox: CommandTest, names: Container[str] = ("aide.db",)) -> dict[str, str]:
-    """What is kept: the file of hosts, and the baselines, or other databases of these names."""
+def files(sandbox: CommandTest) -> dict[str, str]:
+    """What is kept: the file of hosts, the databases, and the names of all else in the store."""
     found = {}
     if os.path.exists(sandbox.path("etc-hosts")):
         found["etc-hosts"] = sandbox.read("etc-hosts").decode()
-    hosts = sandbox.path("store/hosts")
-    for host in os.listdir(hosts) if os.path.isdir(hosts) else []:
-        for name in os.listdir(f"{hosts}/{host}"):
-            if name in names:
-                found[f"{host}/{name}"] = sandbox.read(f"store/hosts/{host}/{name}").decode()
+    for place, _, names in os.walk(sandbox.path("store")):
+        for path in (f"{place}/{name}" for name in names):
+            is_database = "aide.db" in path
+            name = os.path.relpath(path, sandbox.path("store"))
+            found[name] = sandbox.read(path).decode() if is_database else ""
     return found
 
 
@@ -153,7 +155,7 @@ class HostsAddTest(CommandTest):
         ):
             self.assertIn(part, before)
         self.assertLessEqual(max(map(len, before.split("\n"))), 80, before)
-        self.assertEqual(files(self), {"etc-hosts": "www\n", "www/aide.db": OLD.decode()})
+        self.assertEqual(files(self), WATCHED)
         self.assertEqual(self.read("known_hosts"), b"www KEY\n", "ssh has asked once")
         self.refuses(24, "has a baseline already", "www")
         shutil.rmtree(self.path("store/hosts/www"))
@@ -186,8 +188,7 @@ class HostsAddTest(CommandTest):
             self.assertEqual((asked.status, files(self)), (24, {}), asked)
             self.assertIn("nothing was added", asked.output_text)
         asked = add(self, "www", "\x03")  # As ^C, which the terminal makes a signal of.
-        found = files(self, ("aide.db", "aide.db.new"))
-        self.assertEqual((asked.status, found), (-signal.SIGINT, {}), asked)
+        self.assertEqual((asked.status, files(self)), (-signal.SIGINT, {LOCK: ""}), asked)
         asked = add(self, "www", "no\n", early=b"yes\n")
         self.assertEqual((asked.status, files(self)), (24, {}), "typed before the question")
         command = "aide-compare hosts add"
@@ -197,7 +198,6 @@ class HostsAddTest(CommandTest):
         said = self.fleet.call(command, "--sha256", sha256(NEW), "www")
         self.assertEqual((said.status, files(self)), (24, {}), said)
         self.assertIn(f"sent another database, with the SHA-256 {sha256(OLD)}", said.error_text)
-        self.assertEqual(files(self, ["aide.db.new"]), {}, "nothing is left of a refused database")
         for words in (("--sha256", sha256(OLD), "www", "db1"), ("--yes", "www")):
             said = self.fleet.call(command, *words)
             self.assertEqual((said.status, files(self)), (15, {}), (words, said))
@@ -211,7 +211,7 @@ class HostsAddTest(CommandTest):
         self.fleet.put("www", OLD, None)
         said = self.fleet.call("aide-compare hosts add", *words, "www")
         self.assertEqual((said.status, said.error_text), (0, ""), said)
-        self.assertEqual(files(self), {"etc-hosts": "www\n", "www/aide.db": OLD.decode()})
+        self.assertEqual(files(self), WATCHED)
         self.assertFalse(os.path.exists(self.path("known_hosts")), "ssh has not asked")
         listed = self.fleet.call("aide-compare hosts list", self.path("etc-hosts")).output_text
         self.assertEqual(listed, "www 18 was never compared\n")
@@ -225,9 +225,17 @@ class HostsAddTest(CommandTest):
         self.refuses(18, "is the key of this user in its authorized_keys?", "denied")
         self.refuses(18, "sent nothing", "empty")
         self.refuses(24, "no sound database", "other")
-        self.assertEqual(files(self, ["aide.db.new"]), {})
         for name in ("-x", "x\ny", "$(x)", "a#b"):
             self.refuses(15, "", name, "--")
+        self.fleet.put("www", OLD, None)
+        words = ("www", "--sha256", sha256(OLD))
+        os.symlink("none", self.path("etc-hosts"))
+        self.refuses(18, "cannot open the file of hosts", *words)
+        for name, told in (("is_same", "read what it sent"), ("run", "run ssh")):
+            self.after_import(
+                "hosts.fetching", f"def {name}(*_, **__):\n    raise OSError(5, 'x')\n"
+            )
+            self.refuses(18, f"www: cannot {told}: x", *words)
 
     def test_sshd(self) -> None:
         """Two hosts by real ssh: added, one down, one with another key."""

@@ -6,7 +6,7 @@ import os
 from collections.abc import Sequence
 from functools import partial
 
-from aide_compare.base.ending import Fault, Status, status_of, tell
+from aide_compare.base.ending import Fault, Status, failing, status_of, tell
 from aide_compare.base.files import reopened
 from aide_compare.base.options import HOST_STORE, HOST_TIME, HOSTS_FILE, SHA256, Asked, Operand
 from aide_compare.base.options import field, option
@@ -53,7 +53,9 @@ def ask(host: str, sha256: str) -> None:
         f"    zcat -f {DATABASE} | sha256sum",
     )
     question = f"Is it the same? Then {host} is watched from now on. yes or no: "
-    if answer_to(question) != "yes":
+    with failing(f"{host}: cannot ask on the terminal"):
+        answer = answer_to(question)
+    if answer != "yes":
         raise Fault(Status.DATABASE, "the answer was not yes: nothing was added")
 
 
@@ -71,14 +73,21 @@ def refuse_wrong(request: AddRequest, directory: HostDirectory, descriptor: int)
 
 def add(request: AddRequest, host: str) -> int:
     """Fetches from a host, and keeps it if it is the right database: nothing is left of another
-    one, also if a signal ends the question. A baseline that is there already is never replaced."""
+    one, also if a signal ends the question, and nothing of a host that is not watched then. A
+    baseline that is there already is never replaced."""
     directory = HostDirectory(request.store, host, request.seconds)
     if directory.has(BASELINE):
         raise directory.fault("has a baseline already; nothing was accepted", Status.DATABASE)
-    if not request.digest:
-        ask_for_key(directory)
-    fetch(directory, 1, partial(refuse_wrong, request, directory))
-    add_host(directory.host, request.hosts_file)
+    is_new = directory.is_new()
+    try:
+        if not request.digest:
+            ask_for_key(directory)
+        fetch(directory, 1, partial(refuse_wrong, request, directory))
+        add_host(directory.host, request.hosts_file)
+    except BaseException:
+        if is_new:
+            directory.remove_all()
+        raise
     try:
         directory.copy(NEW_FILE, BASELINE)
     except OSError as error:

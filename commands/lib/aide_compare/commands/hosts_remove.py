@@ -42,12 +42,9 @@ def remove_directory(host: str, store: str, seconds: int) -> bool:
     if not os.path.lexists(f"{store}/hosts/{host}"):
         return False
     with closing(directory_of(host, store, seconds, is_alone=True)) as directory:
-        with failing(f"cannot remove what is kept of {host}"):
-            for name in os.listdir(directory.path):
-                directory.remove(name)
-            os.rmdir(directory.path)
-            with suppress(FileNotFoundError):
-                os.unlink(directory.state_path)
+        directory.remove_all()
+        with failing(f"cannot remove the state of {host}"), suppress(FileNotFoundError):
+            os.unlink(directory.state_path)
     return True
 
 

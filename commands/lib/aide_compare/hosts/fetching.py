@@ -54,7 +54,8 @@ def transfer(directory: HostDirectory, part: NewFile, limit: int) -> None:
     take_error = bounded(errors, MAX_ERRORS, f"{directory.host}: sent errors of")
     words = [*SSH, directory.host, COMMAND]
     try:
-        status = run(words, {1: take, 2: take_error}, deadline=directory.deadline)
+        with failing(f"{directory.host}: cannot run ssh"):
+            status = run(words, {1: take, 2: take_error}, deadline=directory.deadline)
     except OverTime:
         raise directory.fault(f"had not sent all of it after {directory.seconds:g} seconds")
     if status == NOT_STARTED and not errors:
@@ -78,20 +79,26 @@ def cause_of(errors: bytes, status: int) -> str:
 
 
 def fetch(directory: HostDirectory, jobs: int, check: Callable[[int], None] | None = None) -> None:
-    """Fetches the database. It has no name before `check`, which may refuse it. If anything fails,
-    the state of the host says so, and the cause is kept.
+    """Fetches the database. It has no name before `check`, which may refuse it.
 
     The same bytes again leave the file's time as it is: it says since when the host has sent them.
     """
-    try:
-        with failing(f"{directory.host}: cannot keep what it sent"):
-            with closing(NewFile(directory.fd)) as part:
-                transfer(directory, part, min(MAX_SENT, directory.room(jobs)))
+    with failing(f"{directory.host}: cannot keep what it sent"):
+        with closing(NewFile(directory.fd)) as part:
+            transfer(directory, part, min(MAX_SENT, directory.room(jobs)))
+            with failing(f"{directory.host}: cannot read what it sent"):
                 if check:
                     check(part.fd)
-                if not is_same(part, directory):
-                    part.put(NEW_FILE)
-                directory.remove(CAUSE)
+                is_known = is_same(part, directory)
+            if not is_known:
+                part.put(NEW_FILE)
+            directory.remove(CAUSE)
+
+
+def fetch_watched(directory: HostDirectory, jobs: int) -> None:
+    """The same of a watched host. If anything fails, its state says so, and the cause is kept."""
+    try:
+        fetch(directory, jobs)
     except Fault as fault:
         directory.not_fetched(fault.text)
         directory.not_compared(fault.text)

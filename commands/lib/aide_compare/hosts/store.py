@@ -26,6 +26,7 @@ PREVIOUS = "aide.db.previous"
 LINES = "lines"
 ERRORS = "errors"
 CAUSE = "not-fetched"
+LOCK = "lock"
 
 NAME = re.compile(r"[A-Za-z0-9][A-Za-z0-9._:@-]{0,199}")
 NAME_FORM = (
@@ -68,7 +69,7 @@ class HostDirectory:
         with ExitStack() as opened:
             self.fd: int = opened.enter_context(open_directory(self.path)).fd
             flags = os.O_RDWR | os.O_CREAT | os.O_NOFOLLOW | os.O_CLOEXEC
-            descriptor = os.open("lock", flags, 0o600, dir_fd=self.fd)
+            descriptor = os.open(LOCK, flags, 0o600, dir_fd=self.fd)
             opened.enter_context(closed_after(descriptor))
             if not is_locked(descriptor, self.deadline, lock):
                 raise self.fault("another run is at work on it")
@@ -85,6 +86,17 @@ class HostDirectory:
 
     def remove(self, name: str) -> None:
         unlink(name, self.fd)
+
+    def is_new(self) -> bool:
+        """Whether nothing is kept of the host yet."""
+        return os.listdir(self.path) == [LOCK]
+
+    def remove_all(self) -> None:
+        """Removes all that is kept of the host but its state."""
+        with failing(f"cannot remove what is kept of {self.host}"):
+            for name in os.listdir(self.path):
+                self.remove(name)
+            os.rmdir(self.path)
 
     def write(self, name: str, data: bytes) -> None:
         """Puts these bytes in the place of a file, in one step."""

@@ -16,7 +16,7 @@ from aide_compare.base.directories import closed_after
 from aide_compare.base.ending import Fault, Status, fault_of, write_all
 from aide_compare.base.escapes import guarded, shown
 from aide_compare.base.processes import limit_memory, start_child
-from aide_compare.hosts.fetching import fetch
+from aide_compare.hosts.fetching import fetch_watched
 from aide_compare.hosts.host_comparison import HostsRequest, compare
 from aide_compare.hosts.hosts_read import words_of
 from aide_compare.hosts.store import MAX_MEMORY, HostDirectory
@@ -53,7 +53,7 @@ def compare_host(host: str, request: HostsRequest) -> HostResult:
     """Fetches and compares one host."""
     directory = HostDirectory(request.store, host, request.seconds)
     if not request.no_fetch:
-        fetch(directory, request.jobs)
+        fetch_watched(directory, request.jobs)
     state = compare(directory, request)
     if state.status > 7:
         return HostResult(host, state.status, without_name(host, state.error))
