@@ -244,6 +244,7 @@ class FleetTest(CommandTest):
         self.fleet.put("fresh", OLD, None)
         said = self.fleet.call(accept, "--sha256", sha256(OLD), "fresh")
         self.assertEqual((said.status, "nothing was fetched" in said.error_text), (18, True), said)
+        self.assertFalse(os.path.exists(self.path("store/hosts/fresh")), "nothing is made of it")
         self.fleet.not_compared("no baseline yet", self.fleet.compare_one("fresh"), "fresh")
         self.assertEqual(self.fleet.call(accept, "fresh").status, 15, "no digest")
         self.assertEqual(self.fleet.call(accept, "--sha256", sha256(NEW), "fresh").status, 24)

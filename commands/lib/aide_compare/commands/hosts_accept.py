@@ -1,6 +1,7 @@
 """aide-compare hosts accept: what was fetched from a host becomes its baseline."""
 from __future__ import annotations
 
+import os
 from collections.abc import Sequence
 
 from aide_compare.base.ending import Fault, Status
@@ -21,6 +22,7 @@ from aide_compare.base.processes import limit_memory
 from aide_compare.commands import accept
 from aide_compare.commands.accept import AcceptRequest
 from aide_compare.hosts.store import BASELINE, MAX_BASELINE, MAX_MEMORY, NEW_FILE, HostDirectory
+from aide_compare.hosts.store import check_name
 
 NAME = "aide-compare hosts accept"
 DESCRIPTION = """\
@@ -57,10 +59,12 @@ def main(arguments: Sequence[str]) -> int:
     request = read(HostAcceptRequest, arguments, NAME, DESCRIPTION, EPILOG, USAGE)
     if not request.digest:
         raise Fault(Status.USAGE, "give --sha256", f"try: {NAME} --help")
+    host = check_name(request.host)
+    if not os.path.lexists(f"{request.store}/hosts/{host}/{NEW_FILE}"):
+        text = f"{host}: nothing was fetched yet; see aide-compare hosts add --help"
+        raise Fault(Status.DEVICE, text)
     limit_memory(MAX_MEMORY)
-    directory = HostDirectory(request.store, request.host, request.seconds)
-    if not directory.has(NEW_FILE):
-        raise directory.fault("nothing was fetched yet; see aide-compare hosts add --help")
+    directory = HostDirectory(request.store, host, request.seconds)
     next_baseline = AcceptRequest(
         new=directory.file(NEW_FILE),
         baseline=directory.file(BASELINE),
