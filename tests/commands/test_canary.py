@@ -92,7 +92,7 @@ class CanaryTest(CommandTest):
         text = hosts.report().output_text
         self.assertTrue(text.startswith("C" + note[1:]), text)
         brief = hosts.report("--format=brief").output_text
-        self.assertIn("the others were compared without it", brief.split("\n")[0])
+        self.assertTrue(" ".join(brief.split()).startswith("C" + note[1:]), brief)
         self.assertIn("\nopen=2\n", hosts.state("www2"))
 
     def test_failed(self) -> None:

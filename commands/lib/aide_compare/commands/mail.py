@@ -151,8 +151,8 @@ def lines_of_mail(
     request: MailRequest, comparison: Comparison, judged: Judged | None, notes: Sequence[str]
 ) -> list[str]:
     """The lines of the text."""
-    from aide_compare.mail.text import Mail, fault_lines, note_lines, text_of_changes
-    from aide_compare.mail.text import text_of_unjudged
+    from aide_compare.mail.columns import note_lines
+    from aide_compare.mail.text import Mail, fault_lines, text_of_changes, text_of_unjudged
 
     if comparison.has_failed:
         return fault_lines(notes)

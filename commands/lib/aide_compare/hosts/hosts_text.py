@@ -6,7 +6,6 @@ many lines and columns that people read it.
 from __future__ import annotations
 
 from collections.abc import Callable, Iterable, Iterator, Sequence
-from textwrap import shorten
 from typing import NamedTuple
 
 from aide_compare.base.escapes import guarded
@@ -16,7 +15,7 @@ from aide_compare.hosts.hosts_read import words_of
 from aide_compare.hosts.report_values import CUT, UNREADABLE, Host, SharedChange, Summary
 from aide_compare.lines.attributes import word_of
 from aide_compare.lines.change import Change
-from aide_compare.mail.columns import command_lines
+from aide_compare.mail.columns import command_lines, note_lines
 from aide_compare.show.changes import change_lines
 from aide_compare.show.digest import MAIL, Room, digest, entry_line, shortened
 
@@ -53,8 +52,7 @@ def headline(summary: Summary) -> str:
 def canary_lines(summary: Summary) -> list[str]:
     """Beside which host the others were compared, or why they were not; nothing without a
     canary."""
-    lines = [f"{line[:1].upper()}{line[1:]}" for line in summary.canary]
-    return [*lines, ""] if lines else []
+    return [f"{line[:1].upper()}{line[1:]}" for line in summary.canary]
 
 
 def not_listed(host: Host) -> str:
@@ -102,6 +100,8 @@ def report_lines(report: Report) -> Iterator[str]:
     """Yields the lines of the whole text."""
     summary = report.summary
     yield from canary_lines(summary)
+    if summary.canary:
+        yield ""
     yield f"{headline(summary)}, {summary.counts.others()}"
     for title, lines in host_lists(report.hosts).items():
         yield from list_lines(title, lines)
@@ -191,7 +191,9 @@ def short_lines(report: Report) -> Iterator[str]:
     """Yields the lines of the short text, at most MAX_ROWS of at most MAX_COLUMNS."""
     summary = report.summary
     lists = host_lists(report.hosts)
-    head = [shorten(line, MAX_COLUMNS, placeholder="...") for line in canary_lines(summary)]
+    head = note_lines(canary_lines(summary))
+    if head:
+        head.append("")
     head += [headline(summary), summary.counts.others()]
     head += list_lines("Not compared", lists["Not compared"], MAX_MISSING)
     head += list_lines("Not all listed", lists["Not all changes are listed"], MAX_CUT)

@@ -2,16 +2,25 @@
 from __future__ import annotations
 
 import shlex
-from collections.abc import Sequence
+from collections.abc import Iterable, Sequence
 from textwrap import wrap
 
 
 WIDTH = 80
+MAX_NOTES = 6
 
 
 def wrapped(text: str) -> list[str]:
     """A text in lines; those that follow the first one are indented."""
     return wrap(text, WIDTH, subsequent_indent="  ", break_on_hyphens=False)
+
+
+def note_lines(notes: Iterable[str]) -> list[str]:
+    """Notes, of which those that have no room are counted."""
+    lines = [line for note in notes for line in wrapped(note)]
+    if len(lines) <= MAX_NOTES:
+        return lines
+    return [*lines[: MAX_NOTES - 1], f"({len(lines) - MAX_NOTES + 1} more lines of notes)"]
 
 
 def command_lines(words: Sequence[str], end: str = "") -> list[str]:

@@ -14,12 +14,11 @@ from aide_compare.base.files import is_name
 from aide_compare.base.words import KINDS
 from aide_compare.changes.judged import Judged
 from aide_compare.compare.state import State
-from aide_compare.mail.columns import WIDTH, command_lines, wrapped
+from aide_compare.mail.columns import WIDTH, command_lines, note_lines, wrapped
 from aide_compare.show.brief import brief
 from aide_compare.show.digest import MAIL, shortened_path
 
 MAX_LINES = 80
-MAX_NOTES = 6
 # Of changes that nobody has judged, so many paths of one directory.
 DIRECTORY_SHARE = 5
 
@@ -41,14 +40,6 @@ def names_of(state: State, *sides: str) -> list[str]:
     if not all(map(is_name, names.values())):
         return [side.upper() for side in sides]
     return [os.path.abspath(names[side]) for side in sides]
-
-
-def note_lines(notes: Iterable[str]) -> list[str]:
-    """Notes, of which those that have no room are counted."""
-    lines = [line for note in notes for line in wrapped(note)]
-    if len(lines) <= MAX_NOTES:
-        return lines
-    return [*lines[: MAX_NOTES - 1], f"({len(lines) - MAX_NOTES + 1} more lines of notes)"]
 
 
 class Mail(NamedTuple):
