@@ -58,6 +58,15 @@ class HostsBriefTest(CommandTest):
             self.assertEqual(int(missing.group(1)), int(missing.group(3)) + 11)
         self.assertIn(": -rwsr-xr-x", text, "a mode")
 
+    def test_links(self) -> None:
+        """What differs in a value of each host only, such as a directory's links, is named."""
+        hosts = Hosts(self)
+        directory = line(b"/d", perm=b"40755")
+        pair = (database(directory), database(directory.replace(b" 1 35", b" 9 35")))
+        for names, words in ((["www1"], "links 1 -> 9"), (["www1", "www2"], "links")):
+            hosts.compared(dict.fromkeys(names, pair))
+            self.assertIn(f"  /d: {words}\n", hosts.report("--format=brief").output_text)
+
     def test_end(self) -> None:
         """No text ends with an empty line, whatever its last part is."""
         hosts = Hosts(self)

@@ -40,7 +40,7 @@ def listed(lines: Sequence[str]) -> list[str]:
 def heading_of(report: Report, left_out: int, high: int) -> Fields:
     """What stands above the changes: also how many of these are left out."""
     summary = report.summary
-    remarks = [line for line in canary_lines(summary) if line]
+    remarks = canary_lines(summary)
     if left_out:
         command = shlex.join(report.command)
         what = f"{left_out:,} more changes, {high:,} of them high"

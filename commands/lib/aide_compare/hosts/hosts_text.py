@@ -14,10 +14,10 @@ from aide_compare.changes.table import Row, Table
 from aide_compare.hosts.hosts_read import words_of
 from aide_compare.hosts.report_values import CUT, UNREADABLE, Host, SharedChange, Summary
 from aide_compare.lines.attributes import word_of
-from aide_compare.lines.change import Change
 from aide_compare.mail.columns import command_lines, note_lines
 from aide_compare.show.changes import change_lines
 from aide_compare.show.digest import MAIL, Room, digest, entry_line, shortened
+from aide_compare.show.entry import entry_words
 
 MAX_ROWS = 80
 MAX_COLUMNS = 80
@@ -138,14 +138,13 @@ def grouped_lines(report: Report, rows: Iterable[Row]) -> Iterator[str]:
         shared[row.place] = change
         groups.setdefault((*change.names, str(change.hosts)), []).append(row)
 
-    def read(row: Row) -> Change:
-        return shared[row.place].change
-
-    for first, *others in groups.values():
-        names = short_names(shared[first.place])
-        yield entry_line(first, read, f"  {names:<{NAMES_WIDTH}}  ", MAX_COLUMNS)
-        for row in others:
-            yield entry_line(row, read, f"  {'':<{NAMES_WIDTH}}  ", MAX_COLUMNS)
+    for group in groups.values():
+        names = short_names(shared[group[0].place])
+        for row in group:
+            change = shared[row.place]
+            words = entry_words(change.change, change.per_host)
+            yield entry_line(row, words, f"  {names:<{NAMES_WIDTH}}  ", MAX_COLUMNS)
+            names = ""
 
 
 def list_lines(title: str, lines: Sequence[str], rows: int = 0) -> Iterator[str]:

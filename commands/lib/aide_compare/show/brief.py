@@ -10,6 +10,7 @@ from aide_compare.base.words import SEVERITIES
 from aide_compare.changes.judged import Judged
 from aide_compare.lines.change import Counts, Standing
 from aide_compare.show.digest import SCREEN, Room, digest, entry_line, in_directory
+from aide_compare.show.entry import entry_words
 from aide_compare.show.groups import group_lines
 
 WIDTH = 100  # Of lines with names, if lines have no limit.
@@ -24,7 +25,7 @@ def open_lines(judged: Judged, room: Room) -> Iterator[str]:
             yield f"Open, severity {part.severity}:"
         last = part.severity
         for row in part.rows:
-            yield entry_line(row, judged.read, "  ", room.width)
+            yield entry_line(row, entry_words(judged.read(row)), "  ", room.width)
         yield from (f"  {words}" for words in part.rest)
 
 

@@ -17,8 +17,6 @@ from aide_compare.base.escapes import shown
 from aide_compare.base.paths import path_of
 from aide_compare.base.words import SEVERITIES
 from aide_compare.changes.table import LISTED, ORDER_OF_PART, Row, Table
-from aide_compare.lines.change import Change
-from aide_compare.show.entry import entry_words
 
 MAX_LETTERS = 400  # Of a path in a line of any width.
 MIN_WIDTH = 24  # Of a path, however little room there is.
@@ -36,7 +34,6 @@ from (select level, owners, row_number() over (partition by level, owners, site)
 group by 1, 2
 """
 
-Read = Callable[[Row], Change]
 # The words, in so many columns, for a site by which the changes that are not listed are counted.
 Names = Callable[[Any, int], str]
 
@@ -184,13 +181,13 @@ def shortened_path(path: bytes, width: int) -> str:
     return shortened(shown(path, 4096), max(width or MAX_LETTERS, MIN_WIDTH))
 
 
-def entry_line(row: Row, read: Read, begin: str, width: int) -> str:
+def entry_line(row: Row, words: str, begin: str, width: int) -> str:
     """As in "  changed  /usr/bin/ls: content, mode -rwxr-xr-x -> -rwsr-xr-x", after some beginning,
-    and with the words that fit."""
+    and with those words that fit."""
     line = f"{begin}{row.kind:<7}  "
     line += shortened_path(row.path, width and width - len(line))
     separator = ": "
-    for word in entry_words(read(row)).split(", "):
+    for word in words.split(", "):
         room = width - len(line) - len(separator)
         if width and len(word) > room:
             word = SIZE.sub("", word)

@@ -2,6 +2,7 @@
 from __future__ import annotations
 
 import stat
+from collections.abc import Collection
 
 from aide_compare.base.files import file_kind
 from aide_compare.base.words import date_of, minute_of
@@ -86,16 +87,18 @@ def _time_words(old: Values, new: Values, label: str) -> str:
     return f"{label.lower()} {dates[0]} -> {dates[1]}"
 
 
-def _changed_words(change: Change) -> str:
+def _changed_words(change: Change, unknown: Collection[str]) -> str:
     """As in "content, mode -rwxr-xr-x -> -rwsr-xr-x, 2026-11-25 06:00 UTC"."""
     old, new = change.sides
     old_kind, new_kind = kinds_of(change)
-    differ = {*old, *new}
+    differ = {*old, *new, *unknown}
     words = []
     if not differ.isdisjoint(STRENGTH):
         words.append(CONTENT)
     for label in PAIRS:
-        if label in differ:
+        if label in unknown:
+            words.append(word_of(label))
+        elif label in differ:
             pair = f"{_value(old, label, old_kind)} -> {_value(new, label, new_kind)}"
             words.append(pair if label == "Type" else f"{word_of(label)} {pair}")
     words += [word_of(label) for label in OTHERS if label in differ]
@@ -104,15 +107,18 @@ def _changed_words(change: Change) -> str:
     if words:
         return ", ".join(words + _when(old, new))
     for label in TIMES_IN_ORDER:  # Only the first one that differs.
+        if label in unknown:
+            return word_of(label)
         if label in differ:
             return _time_words(old, new, label)
     return ""
 
 
-def entry_words(change: Change) -> str:
-    """The words for an entry, by its line."""
+def entry_words(change: Change, unknown: Collection[str] = ()) -> str:
+    """The words for an entry, by its line. `unknown` are attributes that differ too, and whose
+    values are not known."""
     if change.kind == "changed":
-        return _changed_words(change)
+        return _changed_words(change, unknown)
     if change.kind == "removed":
         words = _side_words(change.old, change.type)
     else:
