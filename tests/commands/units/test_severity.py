@@ -218,6 +218,11 @@ class SeverityTest(ModuleTest):
                 found = level_of(table, b"/usr/share/doc/x", old, new)
                 self.expect(f"severity of {label} among texts", found, "high")
 
+    def test_start(self) -> None:
+        """No expression is compiled before a path needs it."""
+        with mock.patch("re.compile", side_effect=AssertionError("compiled at the start")):
+            Severity()
+
     def test_unknown(self) -> None:
         """What a side does not say makes no change less severe, but for the owner of the old one:
         whoever began to ask for owners sees them come."""

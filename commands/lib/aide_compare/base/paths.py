@@ -13,7 +13,7 @@ from __future__ import annotations
 import fnmatch
 import re
 from collections.abc import Callable, Iterable, Iterator
-from functools import cached_property
+from functools import cache
 
 from aide_compare.base.ending import Fault, Status
 from aide_compare.base.escapes import shown
@@ -84,13 +84,22 @@ def _as_fnmatch(piece: bytes) -> bytes:
     return re.sub(TOKEN, _token, piece)
 
 
-def _test(piece: bytes) -> Test:
-    """A test of one piece of a path. What fnmatch makes of it looks for each text between stars
-    once, from left to right."""
-    if WILD.search(piece) is None:
-        return piece.__eq__
+@cache
+def _compiled(piece: bytes) -> Test:
+    """The test of a piece with wildcards. What fnmatch makes of it looks for each text between
+    stars once, from left to right."""
     text = _as_fnmatch(piece)
     return re.compile(fnmatch.translate(text.decode("latin-1")).encode("latin-1")).match
+
+
+def _test(piece: bytes) -> Test | None:
+    """The test of a piece of a pattern, None for `**`. It is compiled when a path first needs it:
+    no path needs most of those of a table."""
+    if piece == b"**":
+        return None
+    if WILD.search(piece) is None:
+        return piece.__eq__
+    return lambda text: _compiled(piece)(text)
 
 
 class Pattern:
@@ -107,12 +116,8 @@ class Pattern:
                 _as_fnmatch(piece)
         self.text = text
         self.pieces = pieces
-
-    @cached_property  # Most patterns of a table never test a path.
-    def tests(self) -> list[Test | None]:
-        """The tests of the pieces, None for `**`, and behind the last one that no piece fits."""
-        tests = [None if piece == b"**" else _test(piece) for piece in self.pieces]
-        return [*tests, frozenset().__contains__]
+        # Behind that of the last piece is one that no piece fits.
+        self.tests = [*map(_test, pieces), frozenset().__contains__]
 
     def reached(self, place: int) -> Iterator[int]:
         """A place in the pattern, and those behind it that a path is at as well: `**` may mean no
