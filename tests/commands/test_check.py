@@ -52,6 +52,8 @@ class CheckTest(StateTest):
         self.check("an old state", 3, "older than 26 hours", "age=937")
         self.check("an old state that may be", 0, "no difference", words=["--max-age", "27h"])
         self.check("one that may not be", 3, "older than 10 seconds", words=["--max-age=10"])
+        self.check("one of any age", 0, "no difference", words=["--max-age", "0"])
+        self.answered(0, b"", b"", "aide-compare status", "--state=state", "--max-age=0", "-q")
         self.put(age=-4000)
         self.check("a state from the future", 3, "in the future")
         for words in (["--max-age", "31d"], ["--odd|\n"], ["--state", ""]):

@@ -148,7 +148,7 @@ MAX_AGE = Option(
 )
 RESULT_AGE = Option(
     "--max-age",
-    "an older result counts as no comparison (26h)",
+    "an older result counts as no comparison (26h; 0: no limit)",
     metavar="TIME",
     kind=duration,
     default=26 * 3600,

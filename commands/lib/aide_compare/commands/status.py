@@ -149,7 +149,7 @@ def write_text(request: StatusRequest) -> int:
         hint = "aide-compare setup makes this machine ready for one each day"
         raise Fault(Status.DEVICE, text, hint)
     state = read_state(request.state)
-    is_young = state.age is not None and state.age <= request.max_age
+    is_young = state.age is not None and not state.is_older(request.max_age)
     if request.is_quiet and state.status == 0 and is_young:
         return Status.OK
     lines = [*paragraph(state, request.max_age), *mail_lines(request)]

@@ -69,6 +69,10 @@ class State(NamedTuple):
         age = int(time.time()) - self.time
         return None if age < -AHEAD else max(age, 0)
 
+    def is_older(self, limit: int) -> bool:
+        """Whether the run is known to have ended more seconds ago; 0 is no limit."""
+        return self.age is not None and 0 < limit < self.age
+
     @property
     def skipped(self) -> list[str]:
         """The columns that were not compared, each once."""

@@ -46,7 +46,7 @@ def host_in(directory: HostDirectory, max_age: int) -> Host:
     state = read_state(directory.state_path)
     if state.age is None:
         raise directory.fault("was compared in the future; is the clock of this host right?")
-    if max_age and state.age > max_age:
+    if state.is_older(max_age):
         text = f"was not compared for {age_in_words(state.age)}"
         return host_of(directory.host, Status.DEVICE, text, state)
     return host_of(directory.host, state.told_status, state.error, state)

@@ -79,7 +79,7 @@ def answer_of(
         return Answer(Level.UNKNOWN, text)
     text = result_text(state)
     numbers = f"{result_numbers(state)}age={state.age}s"
-    if state.age > max_age:
+    if state.is_older(max_age):
         age = f"older than {age_in_words(max_age)}: {date_of(state.time)}"
         return Answer(Level.UNKNOWN, f"the last comparison is {age}: {text}", numbers)
     return Answer(level_of(state, warning, critical), text, numbers)

@@ -40,7 +40,7 @@ def time_text(state: State, max_age: int) -> str:
     if state.age is None:
         return f"{minute}, which is in the future: is a clock wrong?"
     text = f"{minute}, {age_in_words(state.age)} ago"
-    if state.age > max_age:
+    if state.is_older(max_age):
         text += f": there should have been one in the last {age_in_words(max_age)}"
     return text
 
