@@ -172,7 +172,8 @@ class InstallingTest(InstallTest):
         killed = "put() {\n    case $4 in */zzz.1) kill -9 $$ ;; esac\n"
         with open(script, "w") as file:
             file.write(text.replace("put() {\n", killed))
-        done = self.run_install(folder, source=source)
+        room = dict(os.environ, TMPDIR=self.root)  # Its private directory is left.
+        done = self.run_install(folder, source=source, env=room)
         self.assertNotEqual(done.status, 0)
         self.assertGreater(len(files(tree(folder))), 10)
         self.removes_all(folder)
