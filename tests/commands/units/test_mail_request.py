@@ -10,7 +10,7 @@ from tests.commands.units.calls import ModuleTest
 from aide_compare.base import parser
 from aide_compare.base.options import COMPARISON_DEFAULTS, MAIL_DEFAULTS
 from aide_compare.base.parser import defaults_for
-from aide_compare.commands.compare import CompareRequest
+from aide_compare.commands.compare_request import CompareRequest
 from aide_compare.commands.mail import MailRequest, request_of
 
 

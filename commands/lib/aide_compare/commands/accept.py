@@ -16,7 +16,8 @@ from aide_compare.base.parser import read
 from aide_compare.base.paths import Pattern
 from aide_compare.base.terminal import answer_to
 from aide_compare.base.words import KINDS, date_of, minute_of
-from aide_compare.commands.compare import Printer, given_by, with_defaults
+from aide_compare.commands.compare import Printer
+from aide_compare.commands.compare_request import given_by, with_defaults
 from aide_compare.commands.defaults import machines_databases
 from aide_compare.compare.baseline import Baseline
 from aide_compare.compare.kept_open import Merged, Patterns, keep_open

@@ -26,7 +26,8 @@ from aide_compare.base.options import (
 from aide_compare.base.parser import Defaults, Given, Parser, defaults_for, filled
 from aide_compare.base.replacement import Replacement
 from aide_compare.base.rights import become_owner, give_up
-from aide_compare.commands.compare import CompareRequest, Row, ComparisonJob, checked, keep_failure
+from aide_compare.commands.compare import ComparisonJob, Row, keep_failure
+from aide_compare.commands.compare_request import CompareRequest, checked
 from aide_compare.commands.defaults import comparison_defaults
 from aide_compare.compare.comparison import Comparison
 from aide_compare.compare.state import State, read_state

@@ -8,7 +8,7 @@ from aide_compare.base.ending import Fault, Status
 from aide_compare.base.escapes import shown, unshown
 from aide_compare.base.paths import WILD
 from aide_compare.commands import compare
-from aide_compare.commands.compare import given_by
+from aide_compare.commands.compare_request import given_by
 
 USAGE = "aide-compare show PATH [OPTIONS] [OLD NEW]"
 

@@ -1,0 +1,153 @@
+"""What a comparison is asked for: by a command line, and by the administrator's defaults."""
+from __future__ import annotations
+
+from collections.abc import Mapping, Sequence
+from typing import TYPE_CHECKING
+
+from aide_compare.base.ending import Fault, Status
+from aide_compare.base.escapes import shown
+from aide_compare.base.kinds import pattern
+from aide_compare.base.options import (
+    AFTER,
+    CONFIG,
+    EXCLUDE,
+    EXCLUDE_FROM,
+    MAX_AGE,
+    MAX_SIZE,
+    NO_DEFAULTS,
+    QUIET,
+    STATE,
+    TRUSTED,
+    USER,
+    Asked,
+    Operand,
+    Option,
+    field,
+    option,
+)
+from aide_compare.base.parser import Given, Parser, filled
+from aide_compare.commands.defaults import ADVICE, comparison_defaults, exclusions_of
+from aide_compare.compare.comparison import ComparisonInput
+from aide_compare.compare.configuration import NONE
+from aide_compare.compare.outputs import STDOUT, descriptor_of
+from aide_compare.show.outputs import OUTPUTS
+
+if TYPE_CHECKING:
+    from aide_compare.base.paths import Pattern
+
+NAME = "aide-compare compare"
+DESCRIPTION = """Compares two AIDE databases, plain or compressed by gzip, and prints what differs,
+the most severe first; show prints the change of one path, json lines of JSON, page a page, and
+--report the report as AIDE does."""
+TRY = "try: aide-compare compare --help"
+ONE_OUTPUT = "only one output can be standard output"
+USAGE = "aide-compare [compare | json | page] [OPTIONS] [OLD NEW]"
+EPILOG = """\
+Times are as in 90s, 15m, 26h or 3d; a plain number is seconds. Sizes are in bytes, or as in
+500k, 20M or 1G. Root becomes the user in whose directories the baseline and the outputs are, unless
+--user names another one.
+
+Status: 0 nothing to read; 1 added, 2 removed, 4 changed, and sums of these, by the changes that are
+not silent; above 7 no comparison. With --report that of aide-compare-program(8), by all changes."""
+
+
+class CompareRequest(Asked):
+    """What the options of a comparison ask for."""
+
+    is_quiet: bool = field(QUIET, help="print neither the report nor a note")
+    databases: Sequence[str] = field(
+        Operand(
+            "OLD NEW",
+            "the databases, - for standard input (those of the defaults)",
+            "*",
+            (),
+        )
+    )
+    configuration: str | None = field(CONFIG)
+    after: str = field(AFTER, default="")
+    state: str | None = field(
+        STATE, help="write the status, the time, the counts and both SHA-256 to FILE"
+    )
+    max_size: int = field(MAX_SIZE)
+    max_age: int = field(MAX_AGE)
+    exclude_from: Sequence[str] = field(EXCLUDE_FROM)
+    exclude: Sequence[str] = field(EXCLUDE)
+    trusted: Sequence[str] = field(TRUSTED, default=())
+    wants_report: bool = option(
+        "--report", "print the report as AIDE does, as with an option report_* in -A"
+    )
+    only: Pattern | None = option(
+        "--only",
+        "print only the changes of these paths, as '/etc/**', with their values",
+        "PATTERN",
+        kind=pattern,
+    )
+    user: str | None = field(USER)
+    no_defaults: bool = field(NO_DEFAULTS)
+
+    @classmethod
+    def rows(cls) -> dict[str, Option | Operand]:
+        return {**super().rows(), **{row.option.attribute: row.option for row in OUTPUTS}}
+
+    @property
+    def outputs(self) -> Mapping[str, str]:
+        """The places of further outputs, by the names of their options."""
+        places = {row.option.name: vars(self)[row.option.attribute] for row in OUTPUTS}
+        return {name: path for name, path in places.items() if path}
+
+    @property
+    def outputs_on_stdout(self) -> int:
+        """How many further outputs have standard output as their place."""
+        return [descriptor_of(path) for path in self.outputs.values()].count(STDOUT)
+
+
+def given_by(arguments: Sequence[str], usage: str = USAGE) -> Given:
+    """What the arguments give."""
+    return Parser(CompareRequest, NAME, DESCRIPTION, EPILOG, usage).parse(arguments)
+
+
+def check_databases(request: CompareRequest) -> None:
+    """Refuses operands that do not name both databases."""
+    databases = request.databases
+    if len(databases) == 1:
+        raise Fault(Status.USAGE, "name both databases, OLD and NEW, or none", TRY)
+    if len(databases) > 2:
+        raise Fault(Status.USAGE, f"more than two databases: {shown(databases[-1], 200)}", TRY)
+    if request.configuration and not databases:
+        raise Fault(Status.USAGE, "--config names no databases: name OLD and NEW", TRY)
+
+
+def checked(given: Given) -> CompareRequest:
+    """What a command line alone asks for."""
+    request = filled(CompareRequest, given, {})
+    check_databases(request)
+    return request
+
+
+def with_defaults(given: Given, arguments: Sequence[str]) -> CompareRequest:
+    """What the arguments ask for that give these values, and the administrator's defaults where
+    these say nothing."""
+    defaults = comparison_defaults(given["databases"], arguments)
+    return filled(CompareRequest, given, defaults)
+
+
+def work_request(request: CompareRequest) -> ComparisonInput:
+    """What is compared, and how."""
+    check_databases(request)
+    if not request.databases:
+        raise Fault(Status.USAGE, "no databases are named", ADVICE)
+    if [*request.databases, *request.trusted].count("-") > 1:
+        raise Fault(Status.USAGE, "standard input can hold only one database")
+    if request.outputs_on_stdout > 1:
+        raise Fault(Status.USAGE, ONE_OUTPUT)
+    old, new = request.databases
+    return ComparisonInput(
+        old=old,
+        new=new,
+        configuration=request.configuration or NONE,
+        after=request.after,
+        max_size=request.max_size,
+        max_age=request.max_age,
+        exclusions=exclusions_of(request.exclude_from, request.exclude, not request.no_defaults),
+        trusted=request.trusted,
+    )
