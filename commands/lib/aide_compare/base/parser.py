@@ -12,7 +12,7 @@ import os
 import re
 from collections.abc import Iterable, Mapping, Sequence
 from contextlib import suppress
-from typing import Any, NoReturn
+from typing import Any, NamedTuple, NoReturn
 
 from aide_compare import VERSION
 from aide_compare.base.ending import Done, Fault, Status, failing, write_all
@@ -112,22 +112,35 @@ def end_of_options(words: Sequence[str]) -> int:
     return words.index("--") if "--" in words else len(words)
 
 
+class Help(NamedTuple):
+    """What --help prints of a command beside its options."""
+
+    name: str
+    description: str
+    epilog: str = ""
+    usage: str = "%(prog)s [OPTIONS]"
+
+    @property
+    def hint(self) -> str:
+        """The line that follows a fault of the command line."""
+        return f"try: {self.name} --help"
+
+
 class Parser(argparse.ArgumentParser):
     """The parser of what a command is asked for. Faults have the status 15."""
 
-    def __init__(
-        self, asked: type[Asked], name: str, description: str, epilog: str, usage: str
-    ) -> None:
+    def __init__(self, asked: type[Asked], help: Help) -> None:
+        self.hint = help.hint
         super().__init__(
-            prog=name,
-            description=description,
-            usage=usage,
-            epilog=epilog,
+            prog=help.name,
+            description=help.description,
+            usage=help.usage,
+            epilog=help.epilog,
             allow_abbrev=False,
             argument_default=argparse.SUPPRESS,
             formatter_class=Formatter,
         )
-        version = f"{name} {VERSION}"
+        version = f"{help.name} {VERSION}"
         self.add_argument(
             "--version", action="version", version=version, help="print the version and stop"
         )
@@ -156,21 +169,14 @@ class Parser(argparse.ArgumentParser):
         raise Done  # After --help and --version; faults are in `error`.
 
     def error(self, message: str) -> NoReturn:
-        raise Fault(Status.USAGE, message.replace(OPERAND, ""), f"try: {self.prog} --help")
+        raise Fault(Status.USAGE, message.replace(OPERAND, ""), self.hint)
 
 
 def read(
-    asked: type[Asks],
-    words: Sequence[str],
-    name: str,
-    description: str,
-    epilog: str = "",
-    usage: str = "%(prog)s [OPTIONS]",
-    defaults: Defaults | None = None,
+    asked: type[Asks], words: Sequence[str], help: Help, defaults: Defaults | None = None
 ) -> Asks:
     """What the words of a command line ask for, and the defaults where they say nothing."""
-    given = Parser(asked, name, description, epilog, usage).parse(words)
-    return filled(asked, given, defaults or {})
+    return filled(asked, Parser(asked, help).parse(words), defaults or {})
 
 
 def filled(asked: type[Asks], given: Given, defaults: Defaults) -> Asks:
@@ -212,7 +218,7 @@ def defaults_for(options: Iterable[Option], words: Sequence[str]) -> Defaults:
     if path is None:
         return {}
     defaults: Defaults = {}
-    parser = Parser(Asked, "", "", "", "")
+    parser = Parser(Asked, Help("", ""))
     parser.add_rows(rows)
     for line, place in lines_of(path, "the defaults"):
         option, line_words = option_in(line, place)

@@ -12,7 +12,7 @@ from aide_compare.base.ending import Fault, Status, say, tell
 from aide_compare.base.escapes import shown
 from aide_compare.base.files import blocks_of, nameless
 from aide_compare.base.options import KEEP_OPEN, MAX_SIZE, QUIET, SHA256, Asked, Operand, field
-from aide_compare.base.parser import read
+from aide_compare.base.parser import Help, read
 from aide_compare.base.paths import Pattern
 from aide_compare.base.terminal import answer_to
 from aide_compare.base.words import KINDS, date_of, minute_of
@@ -121,19 +121,21 @@ def accept(request: AcceptRequest) -> Accepted:
     return accepted
 
 
-NAME = "aide-compare accept"
-DESCRIPTION = """\
+HELP = Help(
+    name="aide-compare accept",
+    usage="%(prog)s [OPTIONS] [NEW BASELINE]",
+    description="""\
 Makes NEW the baseline if DIGEST is the SHA-256 of its unpacked bytes. The former baseline becomes
-BASELINE.previous. Without a digest, on a terminal, it shows what differs and asks."""
-EPILOG = """\
+BASELINE.previous. Without a digest, on a terminal, it shows what differs and asks.""",
+    epilog="""\
 If another user can write in the directory of BASELINE, or in one above it, all changes there are
 made with the privileges of that user, and the new baseline belongs to that user. A BASELINE
 that is a link is refused.
 
 Status: 0 NEW is the baseline; 15 bad arguments; 18 a file cannot be read or written; 22 out of
 memory; 24 refused: NEW is another database, or no sound one, or a part of it cannot stay
-open."""
-HINT = f"try: {NAME} --help"
+open.""",
+)
 YES = ("y", "yes")
 
 
@@ -185,10 +187,10 @@ class AcceptOptions(Asked):
     def refuse_contradictions(self) -> None:
         """Refuses what means nothing without another word, or with it."""
         if len(self.files) not in (0, 2):
-            raise Fault(Status.USAGE, "name NEW and BASELINE, or none", HINT)
+            raise Fault(Status.USAGE, "name NEW and BASELINE, or none", HELP.hint)
         if not self.digest and (self.is_quiet or not can_ask()):
             why = "give --sha256 DIGEST, or run this on a terminal to be asked"
-            raise Fault(Status.USAGE, why, HINT)
+            raise Fault(Status.USAGE, why, HELP.hint)
 
 
 def title_line(request: AcceptRequest, accepted: Accepted) -> str:
@@ -233,8 +235,7 @@ def run(request: AcceptRequest, is_quiet: bool) -> int:
 
 
 def main(arguments: Sequence[str]) -> int:
-    usage = f"{NAME} [OPTIONS] [NEW BASELINE]"
-    asked = read(AcceptOptions, arguments, NAME, DESCRIPTION, EPILOG, usage)
+    asked = read(AcceptOptions, arguments, HELP)
     asked.refuse_contradictions()
     new, baseline = asked.files or reversed(machines_databases(arguments))
     digest = asked.digest or wanted_after_question(new, baseline)

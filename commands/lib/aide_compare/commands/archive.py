@@ -9,7 +9,7 @@ from aide_compare.base.ending import Fault, Status, say
 from aide_compare.base.escapes import shown
 from aide_compare.base.files import PRIVATE, copy_file, in_memory, trusted_text
 from aide_compare.base.options import MAX_SIZE, QUIET, USER, Asked, Operand, field, option
-from aide_compare.base.parser import read
+from aide_compare.base.parser import Help, read
 from aide_compare.base.paths import key_of_path, path_of
 from aide_compare.base.processes import limit_memory, limit_time
 from aide_compare.base.replacement import replace_by_copy
@@ -23,16 +23,18 @@ from aide_compare.compare.kept_open import OLD_SIDE, EntryReader
 from aide_compare.compare.soundness import refuse_unsound
 from aide_compare.compare.unpack import Copy, copy_database
 
-NAME = "aide-compare archive"
+HELP = Help(
+    name="aide-compare archive",
+    usage="%(prog)s [OPTIONS] --from DIR ... [OLD NEW]",
+    description="""\
+Writes the database to expect now: OLD, with the files of every new or upgraded package as the
+signed archive has them. A comparison takes OLD and this database as a trusted pair.""",
+)
 DEBIANS_KEYRING = "/usr/share/keyrings/debian-archive-keyring.gpg"
 APTS_LISTS = "/var/lib/apt/lists"
 ARMOR = b"-----BEGIN PGP"  # As apt also takes it.
 MAX_MEMORY = 512 << 20
 MAX_SECONDS = 1800
-DESCRIPTION = """\
-Writes the database to expect now: OLD, with the files of every new or upgraded package as the
-signed archive has them. A comparison takes OLD and this database as a trusted pair."""
-USAGE = f"{NAME} [OPTIONS] --from DIR ... [OLD NEW]"
 ADVICE = (
     f"it has to name MIRROR/dists/SUITE, or a directory called lists with what the old database has"
     f" in {APTS_LISTS}"
@@ -186,10 +188,10 @@ def upgrades_of(old_copy: Copy, new_copy: Copy, request: ArchiveRequest) -> Upgr
 
 
 def request_of(arguments: Sequence[str]) -> ArchiveRequest:
-    request = read(ArchiveRequest, arguments, NAME, DESCRIPTION, usage=USAGE)
+    request = read(ArchiveRequest, arguments, HELP)
     if len(request.databases) not in (0, 2) or not request.directories:
         why = "name --from, and both databases, OLD and NEW, or none"
-        raise Fault(Status.USAGE, why, f"try: {NAME} --help")
+        raise Fault(Status.USAGE, why, HELP.hint)
     databases = request.databases or machines_databases(arguments)
     output = request.output
     if output and os.path.realpath(output) in [os.path.realpath(path) for path in databases]:

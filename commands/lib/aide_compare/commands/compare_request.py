@@ -25,7 +25,7 @@ from aide_compare.base.options import (
     field,
     option,
 )
-from aide_compare.base.parser import Given, Parser, filled
+from aide_compare.base.parser import Given, Help, Parser, filled
 from aide_compare.commands.defaults import ADVICE, comparison_defaults, exclusions_of
 from aide_compare.compare.comparison import ComparisonInput
 from aide_compare.compare.configuration import NONE
@@ -35,20 +35,23 @@ from aide_compare.show.outputs import OUTPUTS
 if TYPE_CHECKING:
     from aide_compare.base.paths import Pattern
 
-NAME = "aide-compare compare"
-DESCRIPTION = """Compares two AIDE databases, plain or compressed by gzip, and prints what differs,
+HELP = Help(
+    name="aide-compare compare",
+    usage="aide-compare [compare | json | page] [OPTIONS] [OLD NEW]",
+    description="""\
+Compares two AIDE databases, plain or compressed by gzip, and prints what differs,
 the most severe first; show prints the change of one path, json lines of JSON, page a page, and
---report the report as AIDE does."""
-TRY = "try: aide-compare compare --help"
-ONE_OUTPUT = "only one output can be standard output"
-USAGE = "aide-compare [compare | json | page] [OPTIONS] [OLD NEW]"
-EPILOG = """\
+--report the report as AIDE does.""",
+    epilog="""\
 Times are as in 90s, 15m, 26h or 3d; a plain number is seconds. Sizes are in bytes, or as in
 500k, 20M or 1G. Root becomes the user in whose directories the baseline and the outputs are, unless
 --user names another one.
 
 Status: 0 nothing to read; 1 added, 2 removed, 4 changed, and sums of these, by the changes that are
-not silent; above 7 no comparison. With --report that of aide-compare-program(8), by all changes."""
+not silent; above 7 no comparison. With --report that of aide-compare-program(8), by all
+changes.""",
+)
+ONE_OUTPUT = "only one output can be standard output"
 
 
 class CompareRequest(Asked):
@@ -101,20 +104,21 @@ class CompareRequest(Asked):
         return [descriptor_of(path) for path in self.outputs.values()].count(STDOUT)
 
 
-def given_by(arguments: Sequence[str], usage: str = USAGE) -> Given:
+def given_by(arguments: Sequence[str], usage: str = HELP.usage) -> Given:
     """What the arguments give."""
-    return Parser(CompareRequest, NAME, DESCRIPTION, EPILOG, usage).parse(arguments)
+    return Parser(CompareRequest, HELP._replace(usage=usage)).parse(arguments)
 
 
 def check_databases(request: CompareRequest) -> None:
     """Refuses operands that do not name both databases."""
     databases = request.databases
     if len(databases) == 1:
-        raise Fault(Status.USAGE, "name both databases, OLD and NEW, or none", TRY)
+        raise Fault(Status.USAGE, "name both databases, OLD and NEW, or none", HELP.hint)
     if len(databases) > 2:
-        raise Fault(Status.USAGE, f"more than two databases: {shown(databases[-1], 200)}", TRY)
+        text = f"more than two databases: {shown(databases[-1], 200)}"
+        raise Fault(Status.USAGE, text, HELP.hint)
     if request.configuration and not databases:
-        raise Fault(Status.USAGE, "--config names no databases: name OLD and NEW", TRY)
+        raise Fault(Status.USAGE, "--config names no databases: name OLD and NEW", HELP.hint)
 
 
 def checked(given: Given) -> CompareRequest:

@@ -16,7 +16,7 @@ from aide_compare.base.options import (
     Operand,
     field,
 )
-from aide_compare.base.parser import read
+from aide_compare.base.parser import Help, read
 from aide_compare.base.paths import Pattern
 from aide_compare.base.processes import limit_memory
 from aide_compare.commands import accept
@@ -24,12 +24,14 @@ from aide_compare.commands.accept import AcceptRequest
 from aide_compare.hosts.store import BASELINE, MAX_BASELINE, MAX_MEMORY, NEW_FILE, HostDirectory
 from aide_compare.hosts.store import check_name
 
-NAME = "aide-compare hosts accept"
-DESCRIPTION = """\
+HELP = Help(
+    name="aide-compare hosts accept",
+    usage="%(prog)s --sha256 DIGEST [OPTIONS] HOST",
+    description="""\
 Makes the database that was fetched from HOST its baseline. The former baseline is kept as
-aide.db.previous."""
-EPILOG = """Status: 0 accepted; 24 refused: it is another database; 15, 18 or 22 as others."""
-USAGE = f"{NAME} --sha256 DIGEST [OPTIONS] HOST"
+aide.db.previous.""",
+    epilog="Status: 0 accepted; 24 refused: it is another database; 15, 18 or 22 as others.",
+)
 
 
 class HostAcceptRequest(Asked):
@@ -56,9 +58,9 @@ class HostAcceptRequest(Asked):
 
 
 def main(arguments: Sequence[str]) -> int:
-    request = read(HostAcceptRequest, arguments, NAME, DESCRIPTION, EPILOG, USAGE)
+    request = read(HostAcceptRequest, arguments, HELP)
     if not request.digest:
-        raise Fault(Status.USAGE, "give --sha256", f"try: {NAME} --help")
+        raise Fault(Status.USAGE, "give --sha256", HELP.hint)
     host = check_name(request.host)
     if not os.path.lexists(f"{request.store}/hosts/{host}/{NEW_FILE}"):
         text = f"{host}: nothing was fetched yet; see aide-compare hosts add --help"

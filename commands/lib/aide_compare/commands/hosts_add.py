@@ -10,7 +10,7 @@ from aide_compare.base.ending import Fault, Status, failing, status_of, tell
 from aide_compare.base.files import reopened
 from aide_compare.base.options import HOST_STORE, HOST_TIME, HOSTS_FILE, SHA256, Asked, Operand
 from aide_compare.base.options import field, option
-from aide_compare.base.parser import read
+from aide_compare.base.parser import Help, read
 from aide_compare.base.processes import limit_memory
 from aide_compare.base.terminal import answer_to
 from aide_compare.compare.soundness import refuse_unsound
@@ -20,14 +20,18 @@ from aide_compare.hosts.hosts_file import add_host
 from aide_compare.hosts.store import BASELINE, MAX_BASELINE, MAX_MEMORY, NEW_FILE, HostDirectory
 from aide_compare.hosts.store import write_cause
 
-NAME = "aide-compare hosts add"
-DESCRIPTION = """\
+HELP = Help(
+    name="aide-compare hosts add",
+    usage="%(prog)s [OPTIONS] HOST ...",
+    description="""\
 Fetches the first database of each HOST by ssh, which asks for itself if it does not know the key of
 HOST. Then it shows the SHA-256 of the database, and asks. After yes the database is the baseline,
-and HOST is in the file of hosts. With a SHA-256 nothing is asked."""
-EPILOG = """Status, the highest of all hosts: 0 HOST is watched; 15 bad arguments, or no terminal;
+and HOST is in the file of hosts. With a SHA-256 nothing is asked.""",
+    epilog="""\
+Status, the highest of all hosts: 0 HOST is watched; 15 bad arguments, or no terminal;
 18 HOST was not fetched or not added; 24 the answer was no, it is another database, there is a
-baseline of HOST already, or it sent no sound database."""
+baseline of HOST already, or it sent no sound database.""",
+)
 
 
 class AddRequest(Asked):
@@ -99,8 +103,7 @@ def add(request: AddRequest, host: str) -> int:
 
 
 def main(arguments: Sequence[str]) -> int:
-    usage = f"{NAME} [OPTIONS] HOST ..."
-    request = read(AddRequest, arguments, NAME, DESCRIPTION, EPILOG, usage)
+    request = read(AddRequest, arguments, HELP)
     if request.digest and len(request.hosts) > 1:
         raise Fault(Status.USAGE, "--sha256 is that of one HOST")
     if not request.digest and not os.isatty(0):

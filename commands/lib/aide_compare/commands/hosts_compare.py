@@ -6,7 +6,7 @@ from collections.abc import Iterator, Sequence
 from aide_compare.base.ending import Fault, Status, fault_of, tell
 from aide_compare.base.escapes import guarded
 from aide_compare.base.options import EXCLUDE, EXCLUDE_FROM
-from aide_compare.base.parser import defaults_for, read
+from aide_compare.base.parser import Help, defaults_for, read
 from aide_compare.base.files import in_memory
 from aide_compare.commands.defaults import exclusions_of
 from aide_compare.compare.comparison import ComparisonInput
@@ -19,14 +19,21 @@ from aide_compare.hosts.hosts_file import hosts_of
 from aide_compare.hosts.report_values import HostCounts
 from aide_compare.hosts.workers import HostResult, results, without_name
 
-NAME = "aide-compare hosts compare"
-EMPTY = b"@@begin_db\n@@db_spec name\n@@end_db\n"
-DESCRIPTION = """\
+HELP = Help(
+    name="aide-compare hosts compare",
+    usage="%(prog)s [OPTIONS] [HOSTS-FILE]",
+    description="""\
 Fetches and compares the databases of the hosts of HOSTS-FILE, one name a line. Prints a line for
-each host as it ends: its name, its status and the counts. Then a summary."""
-EPILOG = """Exit status, the highest of all hosts: 0 nothing to read, 1 to 7 changes that are not
+each host as it ends: its name, its status and the counts. Then a summary.""",
+    epilog="""\
+Exit status, the highest of all hosts: 0 nothing to read, 1 to 7 changes that are not
 silent, above 7 some host was not compared. 15 if arguments or a host's name are wrong, 17 if the
-list of what is left out is; 18 if the command itself fails."""
+list of what is left out is; 18 if the command itself fails.""",
+)
+EMPTY = b"@@begin_db
+@@db_spec name
+@@end_db
+"
 
 
 def results_beside(
@@ -82,8 +89,7 @@ def refuse_faulty(exclusions: Exclusions) -> None:
 def request_of(arguments: Sequence[str]) -> HostsRequest:
     # Of the defaults only what is left out: a trusted pair there is one of this machine.
     defaults = defaults_for((EXCLUDE_FROM, EXCLUDE), arguments)
-    usage = f"{NAME} [OPTIONS] [HOSTS-FILE]"
-    request = read(HostsRequest, arguments, NAME, DESCRIPTION, EPILOG, usage, defaults)
+    request = read(HostsRequest, arguments, HELP, defaults)
     exclusions = exclusions_of(request.exclude_from, request.exclude, not request.no_defaults)
     if exclusions:
         refuse_faulty(exclusions)

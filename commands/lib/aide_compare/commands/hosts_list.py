@@ -6,17 +6,19 @@ from collections.abc import Sequence
 from aide_compare.base.ending import Status, tell
 from aide_compare.base.escapes import guarded
 from aide_compare.base.options import HOST_STORE, HOST_TIME, HOSTS_OPERAND, RESULT_AGE, Asked, field
-from aide_compare.base.parser import read
+from aide_compare.base.parser import Help, read
 from aide_compare.base.words import date_of
 from aide_compare.hosts.hosts_file import hosts_of
 from aide_compare.hosts.hosts_read import read_host, words_of
 from aide_compare.hosts.report_values import Host
 
-NAME = "aide-compare hosts list"
-DESCRIPTION = (
-    "Prints a line for each host of HOSTS-FILE: its name, its last status, and what it says."
+HELP = Help(
+    name="aide-compare hosts list",
+    usage="%(prog)s [OPTIONS] [HOSTS-FILE]",
+    description="""\
+Prints a line for each host of HOSTS-FILE: its name, its last status, and what it says.""",
+    epilog="Status: 0 listed; 15 bad arguments; 18 the file of hosts cannot be read.",
 )
-EPILOG = "Status: 0 listed; 15 bad arguments; 18 the file of hosts cannot be read."
 
 
 class ListRequest(Asked):
@@ -36,8 +38,7 @@ def line_of(host: Host) -> str:
 
 
 def main(arguments: Sequence[str]) -> int:
-    usage = f"{NAME} [OPTIONS] [HOSTS-FILE]"
-    request = read(ListRequest, arguments, NAME, DESCRIPTION, EPILOG, usage)
+    request = read(ListRequest, arguments, HELP)
     for name in hosts_of(request.hosts_file):
         tell(line_of(read_host(name, request.store, request.seconds, request.max_age)))
     return Status.OK

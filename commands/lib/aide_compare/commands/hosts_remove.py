@@ -9,18 +9,23 @@ from aide_compare.base.ending import Fault, Status, failing, tell
 from aide_compare.base.escapes import shown
 from aide_compare.base.options import HOST_STORE, HOST_TIME, HOSTS_FILE, Asked, Operand
 from aide_compare.base.options import field, option
-from aide_compare.base.parser import read
+from aide_compare.base.parser import Help, read
 from aide_compare.hosts.hosts_file import remove_host
 from aide_compare.hosts.hosts_read import directory_of
 from aide_compare.hosts.store import check_name
 
-NAME = "aide-compare hosts remove"
-DESCRIPTION = """\
+HELP = Help(
+    name="aide-compare hosts remove",
+    usage="%(prog)s [OPTIONS] HOST",
+    description="""\
 Takes HOST out of the file of hosts, and removes its baseline, its databases, its changes and its
-state. A new HOST of this name begins with aide-compare hosts add."""
-EPILOG = """Its key stays in known_hosts: ssh-keygen -R HOST removes it.
+state. A new HOST of this name begins with aide-compare hosts add.""",
+    epilog="""\
+Its key stays in known_hosts: ssh-keygen -R HOST removes it.
 
-Status: 0 removed; 15 bad arguments; 18 there is no such host, or something could not be removed."""
+Status: 0 removed; 15 bad arguments; 18 there is no such host, or something could not be
+removed.""",
+)
 
 
 class RemoveRequest(Asked):
@@ -49,8 +54,7 @@ def remove_directory(host: str, store: str, seconds: int) -> bool:
 
 
 def main(arguments: Sequence[str]) -> int:
-    usage = f"{NAME} [OPTIONS] HOST"
-    request = read(RemoveRequest, arguments, NAME, DESCRIPTION, EPILOG, usage)
+    request = read(RemoveRequest, arguments, HELP)
     host = check_name(request.host)
     was_listed = remove_host(host, request.hosts_file)
     was_kept = remove_directory(host, request.store, request.seconds)

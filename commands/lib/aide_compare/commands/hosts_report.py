@@ -23,7 +23,7 @@ from aide_compare.base.options import (
     field,
     option,
 )
-from aide_compare.base.parser import read
+from aide_compare.base.parser import Help, read
 from aide_compare.base.program import FRONT, find_installed
 from aide_compare.base.words import counted
 from aide_compare.commands.mail import send_heartbeat
@@ -38,16 +38,19 @@ from aide_compare.lines.reader import ENCODE
 from aide_compare.mail.message import build, clean, within
 from aide_compare.mail.sending import alert, deliver, sendmail_transport
 
-NAME = "aide-compare hosts report"
+HELP = Help(
+    name="aide-compare hosts report",
+    usage="%(prog)s [OPTIONS] [HOSTS-FILE]",
+    description="""\
+Reports what differs on the hosts of HOSTS-FILE, as aide-compare hosts compare found it:
+which hosts were not compared, and each change once with the hosts that have it.""",
+    epilog="""\
+Exit status, the highest of all hosts: 0 nothing to read, 1 to 7 changes that are not
+silent, above 7 some host was not compared. 15, 18 or 22 if the command itself fails.""",
+)
 MAX_NAMES = 20  # Of the hosts of a change, for people.
 # The page that a mail may have. It leaves out what has no room, and says how much.
 MAX_MAILED_PAGE = 500000
-
-DESCRIPTION = """\
-Reports what differs on the hosts of HOSTS-FILE, as aide-compare hosts compare found it:
-which hosts were not compared, and each change once with the hosts that have it."""
-EPILOG = """Exit status, the highest of all hosts: 0 nothing to read, 1 to 7 changes that are not
-silent, above 7 some host was not compared. 15, 18 or 22 if the command itself fails."""
 
 
 class ReportRequest(Asked):
@@ -166,14 +169,13 @@ def encoded(line: str) -> bytes:
 
 
 def request_of(arguments: Sequence[str]) -> ReportRequest:
-    usage = f"{NAME} [OPTIONS] [HOSTS-FILE]"
-    request = read(ReportRequest, arguments, NAME, DESCRIPTION, EPILOG, usage)
+    request = read(ReportRequest, arguments, HELP)
     if request.format and request.address:
-        raise Fault(Status.USAGE, "--format does not go with --to", f"try: {NAME} --help")
+        raise Fault(Status.USAGE, "--format does not go with --to", HELP.hint)
     is_of_mail = request.has_page or request.weekly or request.mail_seconds != MAIL_TIME.default
     if is_of_mail and not request.address:
         text = "--attach-page, --weekly and --mail-time go with --to"
-        raise Fault(Status.USAGE, text, f"try: {NAME} --help")
+        raise Fault(Status.USAGE, text, HELP.hint)
     return request
 
 

@@ -23,7 +23,7 @@ from aide_compare.base.options import (
     field,
     option,
 )
-from aide_compare.base.parser import Defaults, Given, Parser, defaults_for, filled
+from aide_compare.base.parser import Defaults, Given, Help, Parser, defaults_for, filled
 from aide_compare.base.replacement import Replacement
 from aide_compare.base.rights import become_owner, give_up
 from aide_compare.commands.compare import ComparisonJob, Row, keep_failure
@@ -42,14 +42,16 @@ from aide_compare.show.notes import told_of
 if TYPE_CHECKING:
     from aide_compare.changes.judged import Judged
 
-NAME = "aide-compare mail"
-USAGE = "%(prog)s [OPTIONS] [OLD NEW]"
-DESCRIPTION = """\
+HELP = Help(
+    name="aide-compare mail",
+    usage="%(prog)s [OPTIONS] [OLD NEW]",
+    description="""\
 Compares as aide-compare does, with its options. Sends a mail of at most 80 lines if a change is not
-silent, or with the errors if nothing was compared."""
-EPILOG = """\
+silent, or with the errors if nothing was compared.""",
+    epilog="""\
 Status: that of aide-compare-compare(1); 18 if no mail can be sent. With --alarm-sent-is-success
-it is 0 if the mail was sent or kept in the queue."""
+it is 0 if the mail was sent or kept in the queue.""",
+)
 
 
 class MailRequest(CompareRequest):
@@ -72,10 +74,6 @@ class MailRequest(CompareRequest):
     notes: Sequence[str]  # What has to be said of the defaults.
 
 
-def parser() -> Parser:
-    return Parser(MailRequest, NAME, DESCRIPTION, EPILOG, USAGE)
-
-
 def refuse_contradictions(request: MailRequest, given: Given) -> None:
     """Refuses what means nothing without another word, or with it."""
     checked(given)
@@ -93,7 +91,7 @@ def refuse_contradictions(request: MailRequest, given: Given) -> None:
 def request_of(words: Sequence[str]) -> MailRequest:
     """What the options ask for, and the administrator's defaults where they say nothing. A fault of
     the defaults costs no mail, and the mail says it."""
-    given = parser().parse(words)
+    given = Parser(MailRequest, HELP).parse(words)
     compares = "send_queue" not in given and "is_test" not in given
     defaults: Defaults = {}
     notes: list[str] = []
@@ -145,7 +143,7 @@ def notes_of(request: MailRequest, comparison: Comparison) -> list[str]:
     with the defaults."""
     warnings = {f"aide-compare: {guarded(warning)}" for warning in comparison.warnings}
     notes = [line for line in told_of(comparison).split("\n") if line and line not in warnings]
-    return notes + [f"{NAME}: {note}" for note in request.notes]
+    return notes + [f"{HELP.name}: {note}" for note in request.notes]
 
 
 def lines_of_mail(
@@ -186,7 +184,7 @@ def page_of(comparison: Comparison, judged: Judged | None, notes: list[str]) -> 
             return b"".join(parts_of(comparison, judged, MAX_PAGE))
         except Exception as error:
             why = why_of(error)
-    notes.append(f"{NAME}: there is no page: {why}")
+    notes.append(f"{HELP.name}: there is no page: {why}")
     return None
 
 

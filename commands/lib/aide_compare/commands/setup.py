@@ -16,7 +16,7 @@ from aide_compare.base.files import is_missing, reopened
 from aide_compare.base.replacement import replace
 from aide_compare.base.directories import closed_after, open_directory
 from aide_compare.base.options import DATABASES, QUIET, TO, Asked, field, option
-from aide_compare.base.parser import read
+from aide_compare.base.parser import Help, read
 from aide_compare.base.words import counted
 from aide_compare.commands.setup_machine import (
     PATHS,
@@ -32,13 +32,14 @@ from aide_compare.commands.setup_options import DAILY, has_options, options_ther
 from aide_compare.commands.setup_databases import databases_there
 from aide_compare.mail.waiting import troubles
 
-NAME = "aide-compare setup"
-DESCRIPTION = """\
+HELP = Help(
+    name="aide-compare setup",
+    description="""\
 Makes this machine ready for a comparison each day. Each step is printed before it is done, and
-passed over if it is done already."""
-EPILOG = (
-    "Status: 0 done, or nothing is missing; 18 a step failed, or --check found something missing;"
-    " 15 bad arguments."
+passed over if it is done already.""",
+    epilog="""\
+Status: 0 done, or nothing is missing; 18 a step failed, or --check found something missing;
+15 bad arguments.""",
 )
 TIMER = "aide-compare.timer"
 EXIM = "Exim puts it into /var/mail/mail if /etc/aliases has no line for root, such as root: YOU"
@@ -253,7 +254,7 @@ def tell_missing(machine: Machine) -> int:
 
 
 def main(arguments: Sequence[str]) -> int:
-    request = read(SetupRequest, arguments, NAME, DESCRIPTION, EPILOG)
+    request = read(SetupRequest, arguments, HELP)
     if request.is_quiet:  # Also the programs that are run.
         os.dup2(os.open("/dev/null", os.O_WRONLY | os.O_CLOEXEC), 1)
     configurations = (PATHS.debian_configuration, PATHS.other_configuration)

@@ -9,7 +9,7 @@ from aide_compare.base.ending import Fault, Status, say, write_blocks
 from aide_compare.base.escapes import shown
 from aide_compare.base.files import reopened
 from aide_compare.base.options import MAX_SIZE, QUIET, Asked, Operand, field
-from aide_compare.base.parser import read
+from aide_compare.base.parser import Help, read
 from aide_compare.base.paths import path_of
 from aide_compare.base.rows import Rows
 from aide_compare.compare.unpack import Copy, copy_database
@@ -31,15 +31,17 @@ REPEATED = f"""
 select path_key from lines where part = {ENTRIES}
 group by path_key having count(*) > 1 order by path_key"""
 
-NAME = "aide-compare sort"
-DESCRIPTION = """\
+HELP = Help(
+    name="aide-compare sort",
+    usage="%(prog)s [OPTIONS] [FILE]",
+    description="""\
 Writes a database in path order, as aide-compare needs it, to standard output.
 
 AIDE itself always writes path order. A database straight from AIDE that is out of order is
-damaged, for example by a full disk: make it anew. Sort only what another tool wrote or merged."""
-EPILOG = (
-    "Status: 0 sorted; 24 a path is there twice, or this is no database; 15, 18, 22: see"
-    " aide-compare-sort(1)."
+damaged, for example by a full disk: make it anew. Sort only what another tool wrote or merged.""",
+    epilog="""\
+Status: 0 sorted; 24 a path is there twice, or this is no database; 15, 18, 22: see
+aide-compare-sort(1).""",
 )
 ADVICE = (
     "AIDE itself writes path order: if this database is straight from AIDE, it is damaged (was the"
@@ -124,5 +126,4 @@ def sort(request: SortRequest) -> int:
 
 
 def main(arguments: Sequence[str]) -> int:
-    usage = f"{NAME} [OPTIONS] [FILE]"
-    return sort(read(SortRequest, arguments, NAME, DESCRIPTION, EPILOG, usage))
+    return sort(read(SortRequest, arguments, HELP))

@@ -24,24 +24,27 @@ from aide_compare.base.options import (
     field,
     option,
 )
-from aide_compare.base.parser import defaults_for, read
+from aide_compare.base.parser import Help, defaults_for, read
 from aide_compare.base.words import SEVERITIES, minute_of
 from aide_compare.compare.state import DAILY, State, read_state
 from aide_compare.show.check import Answer, Level, answer_of
 from aide_compare.show.result import known_counts, result_text, time_text
 
-NAME = "aide-compare status"
-DESCRIPTION = """\
+HELP = Help(
+    name="aide-compare status",
+    usage="%(prog)s [OPTIONS] [OUTPUT]",
+    description="""\
 Prints the result of the last comparison: for people, for the node exporter of Prometheus, as an
-object of JSON, or in a line for Nagios, as check_aide_compare does."""
-EPILOG = """\
+object of JSON, or in a line for Nagios, as check_aide_compare does.""",
+    epilog="""\
 In a directory in which another user can write, as Debian's user prometheus can in its own, root
 writes as that user.
 
 Status: 0 written; 15 bad arguments; 18 the state cannot be read, or the result cannot be
 written. Of nagios: 0 OK, all changes are silent; 1 WARNING, some are not; 2 CRITICAL, one of these
 is open and of severity high; 3 UNKNOWN, all else. A LIMIT replaces the rule for 1 or 2: a number of
-changes that are not silent, or the least severity of one, high, medium or low."""
+changes that are not silent, or the least severity of one, high, medium or low.""",
+)
 MAX_LINE = 8000
 STDOUT = "-"
 FORMATS = ("text", "json", "prometheus", "nagios")
@@ -212,16 +215,14 @@ WRITERS = {
 
 
 def request_of(arguments: Sequence[str]) -> StatusRequest:
-    usage = f"{NAME} [OPTIONS] [OUTPUT]"
     defaults = defaults_for(CHECK_DEFAULTS, arguments)
-    request = read(StatusRequest, arguments, NAME, DESCRIPTION, EPILOG, usage, defaults)
+    request = read(StatusRequest, arguments, HELP, defaults)
     is_conditional = request.is_quiet or request.max_age != RESULT_AGE.default
-    hint = f"try: {NAME} --help"
     if is_conditional and request.format not in ("text", "nagios"):
         text = "only --format text and --format nagios have --quiet and --max-age"
-        raise Fault(Status.USAGE, text, hint)
+        raise Fault(Status.USAGE, text, HELP.hint)
     if request.output != STDOUT and request.format != "prometheus":
-        raise Fault(Status.USAGE, "only --format prometheus has an OUTPUT", hint)
+        raise Fault(Status.USAGE, "only --format prometheus has an OUTPUT", HELP.hint)
     return request.but(is_daily=request.state == defaults.get(STATE.attribute, DAILY))
 
 

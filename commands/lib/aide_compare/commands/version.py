@@ -11,7 +11,7 @@ from aide_compare.base.ending import Fault, Status, tell
 from aide_compare.base.escapes import shown
 from aide_compare.base.files import read_file
 from aide_compare.base.options import Asked
-from aide_compare.base.parser import read
+from aide_compare.base.parser import Help, read
 from aide_compare.base.program import LINES, NEWER, PROGRAM, find_installed, installed_builds
 
 MAX_PROGRAM = 1 << 28
@@ -21,11 +21,13 @@ RECORD = ".build"
 UNKNOWN = "not known"
 NO_RECORD = "not known: there is no record of how it was built"
 OTHER_PROGRAM = "not known: it is not the program that was installed"
-NAME = "aide-compare version"
-DESCRIPTION = """\
+HELP = Help(
+    name="aide-compare version",
+    description="""\
 Prints the version, and of both programs that the commands run the path, the SHA-256, the kit
-that built it, and whether it is a proved build."""
-EPILOG = "Status: 0 printed; 15 bad arguments; 18 a program cannot be read."
+that built it, and whether it is a proved build.""",
+    epilog="Status: 0 printed; 15 bad arguments; 18 a program cannot be read.",
+)
 
 
 def record_of(program: str) -> dict[str, str]:
@@ -70,7 +72,7 @@ def program_lines(title: str, name: str) -> Iterator[str]:
 
 
 def main(arguments: Sequence[str]) -> int:
-    read(Asked, arguments, NAME, DESCRIPTION, EPILOG)
+    read(Asked, arguments, HELP)
     tell(
         f"aide-compare {VERSION}",
         *program_lines("program", PROGRAM),
