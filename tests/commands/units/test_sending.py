@@ -57,7 +57,7 @@ class SendingTest(ModuleTest):
             self.write(name, b"text")
         with open_directory(self.root) as directory:
             self.gives(["a.mail"], sending.waiting_in, directory)
-            with mock.patch.object(sending, "MAX_BYTES", 4):
+            with mock.patch.object(sending, "MAX_MAIL_BYTES", 4):
                 self.gives(b"text", sending.waiting_mail, directory, "a.mail")
                 self.write("b.mail", b"texts")
                 self.fails(18, "is no mail", sending.waiting_mail, directory, "b.mail")

@@ -12,7 +12,7 @@ import stat
 from collections.abc import Iterator
 from contextlib import contextmanager, suppress
 
-from aide_compare.base.ending import failing
+from aide_compare.base.ending import OSErrorAsFault
 from aide_compare.base.escapes import shown
 
 ANYBODY = -1
@@ -162,7 +162,7 @@ def walked(path: str | bytes, make: bool = False) -> Walked:
 def open_directory(path: str | bytes, make: bool = False) -> Directory:
     """Opens a directory. With `make`, missing ones are made (0755), but only where no other user
     could put something else."""
-    with failing(f"cannot open the directory {shown(path)}"):
+    with OSErrorAsFault(f"cannot open the directory {shown(path)}"):
         end = walked(path, make)
         if end.file is not None:
             os.close(end.file)

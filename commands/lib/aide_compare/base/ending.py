@@ -80,7 +80,7 @@ def write_all(descriptor: int, data: bytes | bytearray | memoryview) -> None:
 def write_blocks(descriptor: int, parts: Iterable[bytes]) -> None:
     """Writes many parts, some at a time, past Python's own buffers."""
     waiting = bytearray()
-    with failing("cannot write"):
+    with OSErrorAsFault("cannot write"):
         for part in parts:
             waiting += part
             if len(waiting) >= MAX_WAITING:
@@ -116,19 +116,22 @@ def reason(error: OSError) -> str:
     return error.strerror or guarded(str(error)) or type(error).__name__
 
 
-class failing:
-    """Where a call of the system that fails is a Fault: `what` failed, such as "cannot read FILE",
-    and the cause."""
+class OSErrorAsFault:
+    """A block in which a call of the system that fails is a Fault: `what` failed, such as "cannot
+    read FILE", and the cause."""
 
     def __init__(self, what: str) -> None:
         self.what = what
 
-    def __enter__(self) -> failing:
+    def __enter__(self) -> OSErrorAsFault:
         return self
 
     def __exit__(self, _kind: object, error: BaseException | None, _traceback: object) -> None:
         if isinstance(error, OSError):
             raise Fault(Status.DEVICE, f"{self.what}: {reason(error)}") from None
+
+
+failing = OSErrorAsFault  # As changes/packages.py has it.
 
 
 def fault_of(error: BaseException) -> Fault:

@@ -11,13 +11,13 @@ from contextlib import suppress
 from io import BufferedRandom
 
 from aide_compare.base.directories import OTHERS_WRITE, PLACE, closed_after, failure, walked
-from aide_compare.base.ending import Fault, Status, failing, write_all
+from aide_compare.base.ending import Fault, OSErrorAsFault, Status, write_all
 from aide_compare.base.escapes import shown
 
 BLOCK = 1 << 18
 # Of a file of the administrator.
-MAX_LINES = 10000
-MAX_BYTES = 1 << 20
+MAX_TRUSTED_LINES = 10000
+MAX_TRUSTED_BYTES = 1 << 20
 TEMPORARY = ".aide-compare-"
 NAME_ANOTHER = " (name another directory by TMPDIR)"
 PRIVATE = 0o600
@@ -87,7 +87,7 @@ def reopened(descriptor: int, flags: int) -> int:
 def _opened(path: str | bytes, what: str) -> tuple[int, bool]:
     """A descriptor of a regular file, to be read, and whether nobody else can put another file in
     its place, wherever the links of the path lead."""
-    with failing(f"cannot open {what}{shown(path)}"):
+    with OSErrorAsFault(f"cannot open {what}{shown(path)}"):
         end = walked(path)
         with end.directory:
             if end.file is None:
@@ -107,7 +107,7 @@ def open_regular(path: str | bytes, what: str = "") -> int:
 def read_whole(descriptor: int, limit: int, what: str) -> bytes:
     """The bytes of an open file, at most so many."""
     data = bytearray()
-    with failing(f"cannot read {what}"):
+    with OSErrorAsFault(f"cannot read {what}"):
         while block := os.read(descriptor, min(limit + 1 - len(data), BLOCK)):
             data += block
             if len(data) > limit:
@@ -137,7 +137,7 @@ def open_trusted(path: str, what: str) -> int:
 def trusted_text(path: str, what: str) -> bytes:
     """The bytes of a file of the administrator."""
     with closed_after(open_trusted(path, what)) as descriptor:
-        return read_whole(descriptor, MAX_BYTES, f"{what} {shown(path)}")
+        return read_whole(descriptor, MAX_TRUSTED_BYTES, f"{what} {shown(path)}")
 
 
 def lines_of(path: str, what: str) -> list[tuple[bytes, str]]:
@@ -149,8 +149,8 @@ def lines_of(path: str, what: str) -> list[tuple[bytes, str]]:
         line = raw.strip(b" \t\r")
         if line and not line.startswith(b"#"):
             lines.append((line, f"{name}, line {number}"))
-    if len(lines) > MAX_LINES:
-        raise Fault(Status.USAGE, f"{what} {shown(path)} has more than {MAX_LINES} lines")
+    if len(lines) > MAX_TRUSTED_LINES:
+        raise Fault(Status.USAGE, f"{what} {shown(path)} has more than {MAX_TRUSTED_LINES} lines")
     return lines
 
 
@@ -199,7 +199,7 @@ def nameless(path: str = "") -> int:
     """A private file that has no name, open for reading and writing: in this directory, or in that
     of private files. Nothing is left of it however the command ends."""
     path = path or private_directory()
-    with failing(f"cannot make a private file in {shown(path)}{NAME_ANOTHER}"):
+    with OSErrorAsFault(f"cannot make a private file in {shown(path)}{NAME_ANOTHER}"):
         with closed_after(os.open(path, PLACE)) as directory:
             descriptor, name = new_file(directory, random_name(), os.O_EXCL)
             if name:

@@ -15,7 +15,7 @@ from contextlib import suppress
 from typing import Any, NamedTuple, NoReturn
 
 from aide_compare import VERSION
-from aide_compare.base.ending import Done, Fault, Status, failing, write_all
+from aide_compare.base.ending import Done, Fault, OSErrorAsFault, Status, write_all
 from aide_compare.base.escapes import shown
 from aide_compare.base.files import lines_of
 from aide_compare.base.kinds import some_text
@@ -200,7 +200,7 @@ def _operand(text: str) -> str:
 def administrators_file(name: str) -> str | None:
     """The path of a file in the administrator's directory; None if there is no such file."""
     path = os.path.join(DIRECTORY, name)
-    with failing(f"cannot look for {shown(path)}"):
+    with OSErrorAsFault(f"cannot look for {shown(path)}"):
         with suppress(FileNotFoundError, NotADirectoryError):
             os.lstat(path)
             return path

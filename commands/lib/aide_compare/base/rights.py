@@ -8,7 +8,7 @@ from collections.abc import Callable, Sequence
 from contextlib import suppress
 
 from aide_compare.base.directories import ANYBODY, open_directory
-from aide_compare.base.ending import Fault, Status, failing
+from aide_compare.base.ending import Fault, OSErrorAsFault, Status
 from aide_compare.base.escapes import shown
 from aide_compare.base.files import given_descriptor
 
@@ -57,7 +57,7 @@ def _become(entry: pwd.struct_passwd, groups: Sequence[int]) -> None:
 
 def become(entry: pwd.struct_passwd) -> None:
     """This process becomes a user for good, with the groups and the environment of the user."""
-    with failing(f"cannot become {name_of(entry.pw_uid)}"):
+    with OSErrorAsFault(f"cannot become {name_of(entry.pw_uid)}"):
         _become(entry, os.getgrouplist(entry.pw_name, entry.pw_gid))
     os.environ.update(HOME=entry.pw_dir or "/", USER=entry.pw_name, LOGNAME=entry.pw_name)
 

@@ -13,18 +13,18 @@ from aide_compare.base.files import NAME_ANOTHER, private_directory
 PAGE = 4096
 # So many bytes are in memory, and so many at most are in the file. More are a Fault.
 MAX_CACHED = 1 << 20
-MAX_BYTES = 16 << 30
+MAX_ROWS_BYTES = 16 << 30
 
 
 class Rows:
     """Tables, by statements and questions of SQL. Each failure, such as a full disk, is a Fault."""
 
-    def __init__(self, schema: str, max_bytes: int = MAX_BYTES) -> None:
+    def __init__(self, schema: str, max_bytes: int = MAX_ROWS_BYTES) -> None:
         # 8 ms that a run without a difference does not need.
         import sqlite3
 
         self.error = sqlite3.Error
-        with self._failing():
+        with self._error_as_fault():
             self._database = sqlite3.connect("", isolation_level=None)
         for setting in (
             "journal_mode = off",
@@ -38,7 +38,7 @@ class Rows:
         self.do(schema)
 
     @contextmanager
-    def _failing(self) -> Iterator[None]:
+    def _error_as_fault(self) -> Iterator[None]:
         try:
             yield
         except self.error as error:
@@ -47,15 +47,15 @@ class Rows:
             raise Fault(Status.DEVICE, text) from None
 
     def do(self, statement: str, *values: object) -> None:
-        with self._failing():
+        with self._error_as_fault():
             self._database.execute(statement, values)
 
     def do_all(self, statement: str, rows: Iterable[tuple[object, ...]]) -> None:
         """Does the same for each row."""
-        with self._failing():
+        with self._error_as_fault():
             self._database.executemany(statement, rows)
 
     def ask(self, question: str, *values: object) -> Iterator[Any]:
         """Yields the rows of an answer."""
-        with self._failing():
+        with self._error_as_fault():
             yield from self._database.execute(question, values)

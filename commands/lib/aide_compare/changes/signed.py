@@ -17,7 +17,7 @@ from hashlib import sha256
 from typing import IO, NamedTuple
 
 from aide_compare.base.directories import closed_after
-from aide_compare.base.ending import Fault, Status, failing, write_all
+from aide_compare.base.ending import Fault, OSErrorAsFault, Status, write_all
 from aide_compare.base.escapes import shown
 from aide_compare.base.files import BLOCK, in_memory, nameless, open_regular, read_file, read_whole
 from aide_compare.base.processes import Taker, bounded, run
@@ -87,7 +87,7 @@ def copy_signed(path: str, size: int, digest: str) -> int:
     """A private copy of a file that has this size and digest. It may be larger than memory."""
     copy = nameless()
     content = sha256()
-    with closed_after(open_regular(path)) as file, failing(f"cannot copy {shown(path)}"):
+    with closed_after(open_regular(path)) as file, OSErrorAsFault(f"cannot copy {shown(path)}"):
         while size >= 0 and (block := os.read(file, BLOCK)):
             size -= len(block)
             content.update(block)

@@ -6,7 +6,7 @@ import os
 from collections.abc import Callable, Sequence
 from typing import NoReturn
 
-from aide_compare.base.ending import Fault, Status, called, failing, write_all
+from aide_compare.base.ending import Fault, OSErrorAsFault, Status, called, write_all
 from aide_compare.base.escapes import shown
 
 # Each but those in SHORT is a module, of which only the one that is asked for is loaded.
@@ -74,7 +74,7 @@ def become_program(arguments: Sequence[str]) -> NoReturn:
     program = find_installed(PROGRAM)
     for number in (signal.SIGPIPE, signal.SIGXFSZ):  # Which the interpreter ignores.
         signal.signal(number, signal.SIG_DFL)
-    with failing(f"cannot run {shown(program)}"):
+    with OSErrorAsFault(f"cannot run {shown(program)}"):
         os.execv(program, [program, *arguments])
     raise AssertionError("the program has taken the place of this process")
 

@@ -6,7 +6,7 @@ import os
 from collections.abc import Sequence
 from functools import partial
 
-from aide_compare.base.ending import Fault, Status, failing, status_of, tell
+from aide_compare.base.ending import Fault, OSErrorAsFault, Status, status_of, tell
 from aide_compare.base.files import reopened
 from aide_compare.base.options import HOST_STORE, HOST_TIME, HOSTS_FILE, SHA256, Asked, Operand
 from aide_compare.base.options import field, option
@@ -57,7 +57,7 @@ def ask(host: str, sha256: str) -> None:
         f"    zcat -f {DATABASE} | sha256sum",
     )
     question = f"Is it the same? Then {host} is watched from now on. yes or no: "
-    with failing(f"{host}: cannot ask on the terminal"):
+    with OSErrorAsFault(f"{host}: cannot ask on the terminal"):
         answer = answer_to(question)
     if answer != "yes":
         raise Fault(Status.DATABASE, "the answer was not yes: nothing was added")

@@ -5,7 +5,7 @@ import os
 from collections.abc import Sequence
 from contextlib import closing, suppress
 
-from aide_compare.base.ending import Fault, Status, failing, tell
+from aide_compare.base.ending import Fault, OSErrorAsFault, Status, tell
 from aide_compare.base.escapes import shown
 from aide_compare.base.options import HOST_STORE, HOST_TIME, HOSTS_FILE, Asked, Operand
 from aide_compare.base.options import field, option
@@ -48,7 +48,7 @@ def remove_directory(host: str, store: str, seconds: int) -> bool:
         return False
     with closing(directory_of(host, store, seconds, is_alone=True)) as directory:
         directory.remove_all()
-        with failing(f"cannot remove the state of {host}"), suppress(FileNotFoundError):
+        with OSErrorAsFault(f"cannot remove the state of {host}"), suppress(FileNotFoundError):
             os.unlink(directory.state_path)
     return True
 

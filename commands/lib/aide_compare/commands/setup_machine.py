@@ -8,7 +8,7 @@ from collections.abc import Sequence
 from contextlib import suppress
 
 from aide_compare.base.directories import open_directory
-from aide_compare.base.ending import Fault, Status, failing, tell
+from aide_compare.base.ending import Fault, OSErrorAsFault, Status, tell
 from aide_compare.base.escapes import shown
 from aide_compare.base.files import read_file
 from aide_compare.base.processes import run_here
@@ -86,13 +86,13 @@ def rename_safely(old: str, new: str) -> None:
         for path, directory in ((source, here), (target, there)):
             if not directory.is_safe():
                 raise Fault(Status.DEVICE, f"other users can write in {shown(path)}")
-        with failing(f"cannot rename {shown(old)}"):
+        with OSErrorAsFault(f"cannot rename {shown(old)}"):
             os.rename(old_name, new_name, src_dir_fd=here.fd, dst_dir_fd=there.fd)
 
 
 def status_of(words: Sequence[str], seconds: int) -> int:
     """The status with which a program of the system ends, which writes where this command does."""
-    with failing(f"cannot run {words[0]}"):
+    with OSErrorAsFault(f"cannot run {words[0]}"):
         return run_here(words, seconds, ENVIRONMENT)
 
 

@@ -20,13 +20,13 @@ FIRST_LINES = """\
 # aide-compare-setup(8).
 --weekly Mon
 """
-MAX_BYTES = 1 << 16
+MAX_OPTIONS_BYTES = 1 << 16
 
 
 def text_there() -> str:
     """The text of the file; nothing without one. Its last line has an end."""
     with suppress(Fault, OSError):
-        text = os.fsdecode(read_file(PATHS.defaults, MAX_BYTES))
+        text = os.fsdecode(read_file(PATHS.defaults, MAX_OPTIONS_BYTES))
         return text if text.endswith("\n") else f"{text}\n"
     return ""
 

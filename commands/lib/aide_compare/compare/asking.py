@@ -21,7 +21,7 @@ from aide_compare.lines.rights import RIGHTS
 Settings = Mapping[str, Any]
 
 MAX_SETTINGS = 1 << 16
-FORMAT = 3  # Of the line that says what a configuration means.
+SETTINGS_FORMAT = 3  # Of the line that says what a configuration means.
 FORCE_NAME = b"report_force_attrs"
 FORCE = FORCE_NAME + b"="
 
@@ -104,6 +104,6 @@ def settings_of(texts: ConfigurationTexts) -> Settings | None:
         return None
     with suppress(ValueError, KeyError, TypeError):
         settings = json.loads(written)
-        if settings["format"] == FORMAT:
+        if settings["format"] == SETTINGS_FORMAT:
             return dict(settings)
     raise odd_answer(program, answer)

@@ -11,7 +11,7 @@ from typing import NamedTuple
 
 from aide_compare.base.directories import ANYBODY, LISTING, PIECE, Directory, closed_after, failure
 from aide_compare.base.directories import open_directory
-from aide_compare.base.ending import Fault, Status, failing, why_of
+from aide_compare.base.ending import Fault, OSErrorAsFault, Status, why_of
 from aide_compare.base.escapes import shown
 from aide_compare.base.files import copy_file, is_locked, new_file, refuse_other_kinds, reopened
 from aide_compare.base.files import unlink
@@ -77,9 +77,9 @@ class Baseline:
         self.mark = f".{self.name}.new"
         self.spare = f".{self.name}.former"
         self.place = os.path.dirname(path) or "."
-        with open_directory(self.place) as directory, failing(self.words):
+        with open_directory(self.place) as directory, OSErrorAsFault(self.words):
             user = _user_for(directory)
-            with failing(f"{self.words}: its directory"):
+            with OSErrorAsFault(f"{self.words}: its directory"):
                 self.directory = os.open(".", LISTING, dir_fd=directory.fd)
                 self._lock()
             self.former = self._former()
@@ -128,7 +128,7 @@ class Baseline:
     def settle(self) -> None:
         """Ends what a run has left that was killed while the names changed."""
         if any(self._identity(name) for name in (self.part, self.mark, self.spare)):
-            with failing(self.words):
+            with OSErrorAsFault(self.words):
                 self._settle()
 
     def _replace(self, source: int) -> os.stat_result:

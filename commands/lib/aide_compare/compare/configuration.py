@@ -11,7 +11,7 @@ from typing import NamedTuple
 from aide_compare.base.files import read_file
 
 NONE = "/dev/null"
-MAX_BYTES = 4194304
+MAX_CONFIGURATION_BYTES = 4194304
 
 
 class ConfigurationTexts(NamedTuple):
@@ -25,4 +25,4 @@ def configuration_in(path: str) -> bytes:
     """The text of a configuration; /dev/null is an empty one."""
     if path == NONE:
         return b""
-    return read_file(path, MAX_BYTES, "the configuration ")
+    return read_file(path, MAX_CONFIGURATION_BYTES, "the configuration ")

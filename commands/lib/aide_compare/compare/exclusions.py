@@ -23,7 +23,7 @@ from aide_compare.compare.unpack import Copy
 MAX_SHOWN = 200  # Characters of a line that are told.
 OPTION = b"--without="
 # Linux has a limit for each argument, of which the last byte is a NUL.
-MAX_BYTES = (1 << 17) - 1 - len(OPTION)
+MAX_EXCLUSIONS_BYTES = (1 << 17) - 1 - len(OPTION)
 WHAT = "the file of --exclude-from"
 COLUMNS = b"@@db_spec "
 # The columns of digests by which a file is looked up in a database.
@@ -121,8 +121,8 @@ def read_exclusions(files: Sequence[str], patterns: Sequence[str]) -> Exclusions
 
 def refuse_other_texts(exclusions: Exclusions) -> None:
     """Refuses what can be no argument of the program."""
-    if len(exclusions.text) > MAX_BYTES:
-        why = f"the lines of what is left out have more than {MAX_BYTES} bytes"
+    if len(exclusions.text) > MAX_EXCLUSIONS_BYTES:
+        why = f"the lines of what is left out have more than {MAX_EXCLUSIONS_BYTES} bytes"
         raise Fault(Status.CONFIGURATION, why)
     for line in exclusions.lines:
         try:

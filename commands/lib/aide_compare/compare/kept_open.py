@@ -12,7 +12,7 @@ from itertools import groupby
 from typing import NamedTuple
 
 from aide_compare.base.database import Kind, Layout, fields_in
-from aide_compare.base.ending import Fault, Status, failing
+from aide_compare.base.ending import Fault, OSErrorAsFault, Status
 from aide_compare.base.escapes import shown
 from aide_compare.base.files import BLOCK, nameless, reopened
 from aide_compare.base.paths import Pattern, path_of
@@ -106,7 +106,7 @@ def keep_open(old: Copy, new: Copy, is_open: Callable[[bytes], bool]) -> Merged:
     key of each path whose lines differ. Columns that differ are a Fault of status 24."""
     target = nameless()
     counts: Counter[str] = Counter()
-    with failing("cannot make a database of which a part is open"):
+    with OSErrorAsFault("cannot make a database of which a part is open"):
         with open(os.dup(target), "wb", BLOCK) as file:
             former = EntryReader(old)
             latter = EntryReader(new, file.write)

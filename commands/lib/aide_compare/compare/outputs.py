@@ -6,7 +6,7 @@ import os
 from collections.abc import Callable, Iterable
 from contextlib import suppress
 
-from aide_compare.base.ending import Fault, Status, failing, write_all
+from aide_compare.base.ending import Fault, OSErrorAsFault, Status, write_all
 from aide_compare.base.escapes import shown
 from aide_compare.base.files import PRIVATE, given_descriptor
 from aide_compare.base.replacement import Replacement
@@ -50,7 +50,7 @@ def stream_output(descriptor: int, words: str) -> Output:
     """A descriptor. `words` say what failed if nothing can be written there."""
 
     def commit(blocks: Iterable[bytes]) -> None:
-        with failing(words):
+        with OSErrorAsFault(words):
             for block in blocks:
                 write_all(descriptor, block)
 

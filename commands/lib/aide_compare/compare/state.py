@@ -13,8 +13,8 @@ from aide_compare.base.files import read_file
 from aide_compare.base.words import date_of, status_of_counts
 from aide_compare.lines.change import Counts
 
-FORMAT = 3
-MAX_BYTES = 65536
+STATE_FORMAT = 3
+MAX_STATE_BYTES = 65536
 MAX_NAMES = 3
 # The state of the daily run, and how much the clocks of two machines that share a file may differ.
 DAILY = "/var/lib/aide-compare/daily/state"
@@ -84,7 +84,8 @@ class State(NamedTuple):
         del values["standings"]
         if self.standings:
             values.update(self.standings._asdict())
-        return json.dumps({"format": FORMAT, "date": date_of(self.time), **values}).encode() + b"\n"
+        fields = {"format": STATE_FORMAT, "date": date_of(self.time), **values}
+        return json.dumps(fields).encode() + b"\n"
 
     def fault(self) -> str:
         """What does not fit in it; "" if it can be the state of a run."""
@@ -132,7 +133,7 @@ def _checked(key: str, value: object) -> object:
 
 def _state_of(fields: dict[str, Any]) -> State:
     """The State that an object says. What its keys lack is a TypeError or a LookupError."""
-    if fields["format"] != FORMAT:
+    if fields["format"] != STATE_FORMAT:
         raise ValueError("another format")
     keys = (*State._fields[:-1], *Counts._fields)
     values: dict[str, Any] = {key: _checked(key, fields[key]) for key in keys if key in fields}
@@ -156,7 +157,7 @@ def parse_state(data: bytes) -> State:
 
 def read_state(path: str) -> State:
     """Reads a state file; a Fault if there is none, or if it is none."""
-    data = read_file(path, MAX_BYTES, "the state file ")
+    data = read_file(path, MAX_STATE_BYTES, "the state file ")
     try:
         return parse_state(data)
     except ValueError:

@@ -9,7 +9,7 @@ import zlib
 from collections.abc import Iterable, Iterator
 from itertools import chain
 
-from aide_compare.base.ending import Fault, Status, failing, write_all
+from aide_compare.base.ending import Fault, OSErrorAsFault, Status, write_all
 from aide_compare.base.escapes import shown
 from aide_compare.base.files import (
     BLOCK,
@@ -75,7 +75,7 @@ def open_database(side: str, path: str) -> Opened:
     given = given_descriptor(path)
     if given is None:
         return Opened(side, path, open_regular(path, f"the {words_of_side(side)} database "))
-    with failing(f"cannot open the {words_of_side(side)} database {shown(path)}"):
+    with OSErrorAsFault(f"cannot open the {words_of_side(side)} database {shown(path)}"):
         if fcntl.fcntl(given, fcntl.F_GETFD) & fcntl.FD_CLOEXEC:
             raise failure(0, "the caller has not opened it")
         mode = os.fstat(given).st_mode
@@ -88,7 +88,7 @@ def _raw_blocks(opened: Opened, limit: int) -> Iterator[bytes]:
     """The bytes of an open database as they are, never many more than are allowed unpacked."""
     count = 0
     while True:
-        with failing(f"cannot read {opened.words}"):
+        with OSErrorAsFault(f"cannot read {opened.words}"):
             block = os.read(opened.fd, BLOCK)
         if not block:
             return
@@ -139,7 +139,7 @@ def copy_opened(opened: Opened, limit: int) -> Copy:
         target = nameless()
         try:
             for block in _unpacked(opened, limit):
-                with failing(f"cannot copy {opened.words} to {shown(private_directory())}"):
+                with OSErrorAsFault(f"cannot copy {opened.words} to {shown(private_directory())}"):
                     write_all(target, block)
         except BaseException:
             os.close(target)

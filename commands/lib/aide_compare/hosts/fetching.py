@@ -7,7 +7,7 @@ import re
 from collections.abc import Callable
 from contextlib import closing, suppress
 
-from aide_compare.base.ending import Fault, failing, write_all
+from aide_compare.base.ending import Fault, OSErrorAsFault, write_all
 from aide_compare.base.escapes import shown
 from aide_compare.base.replacement import NewFile
 from aide_compare.base.processes import NOT_STARTED, OverTime, bounded, run, run_here
@@ -54,7 +54,7 @@ def transfer(directory: HostDirectory, part: NewFile, limit: int) -> None:
     take_error = bounded(errors, MAX_ERRORS, f"{directory.host}: sent errors of")
     words = [*SSH, directory.host, COMMAND]
     try:
-        with failing(f"{directory.host}: cannot run ssh"):
+        with OSErrorAsFault(f"{directory.host}: cannot run ssh"):
             status = run(words, {1: take, 2: take_error}, deadline=directory.deadline)
     except OverTime:
         raise directory.fault(f"had not sent all of it after {directory.seconds:g} seconds")
@@ -83,10 +83,10 @@ def fetch(directory: HostDirectory, jobs: int, check: Callable[[int], None] | No
 
     The same bytes again leave the file's time as it is: it says since when the host has sent them.
     """
-    with failing(f"{directory.host}: cannot keep what it sent"):
+    with OSErrorAsFault(f"{directory.host}: cannot keep what it sent"):
         with closing(NewFile(directory.fd)) as part:
             transfer(directory, part, min(MAX_SENT, directory.room(jobs)))
-            with failing(f"{directory.host}: cannot read what it sent"):
+            with OSErrorAsFault(f"{directory.host}: cannot read what it sent"):
                 if check:
                     check(part.fd)
                 is_known = is_same(part, directory)

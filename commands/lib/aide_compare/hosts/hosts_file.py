@@ -6,7 +6,7 @@ from aide_compare.base.escapes import shown
 from aide_compare.base.files import is_missing, read_file, read_whole
 from aide_compare.base.replacement import replace
 
-MAX_BYTES = 16 << 20
+MAX_HOSTS_FILE_BYTES = 16 << 20
 WHAT = "the file of hosts "
 
 
@@ -14,9 +14,9 @@ def hosts_of(path: str) -> list[str]:
     """The names in a file, each once."""
     data = b""
     if path == "-":
-        data = read_whole(0, MAX_BYTES, WHAT)
+        data = read_whole(0, MAX_HOSTS_FILE_BYTES, WHAT)
     elif not is_missing(path):
-        data = read_file(path, MAX_BYTES, WHAT)
+        data = read_file(path, MAX_HOSTS_FILE_BYTES, WHAT)
     lines = [line.strip() for line in data.decode("utf-8", "surrogateescape").split("\n")]
     names = list(dict.fromkeys(line for line in lines if line and not line.startswith("#")))
     if not names:
@@ -29,7 +29,7 @@ def lines_without(host: str, path: str) -> tuple[list[bytes], bool]:
     empty if the file has an end of its last line, or is missing."""
     lines = [b""]
     if not is_missing(path):
-        lines = read_file(path, MAX_BYTES, WHAT).split(b"\n")
+        lines = read_file(path, MAX_HOSTS_FILE_BYTES, WHAT).split(b"\n")
     kept = [line for line in lines if line.strip() != host.encode()]
     return kept, kept != lines
 

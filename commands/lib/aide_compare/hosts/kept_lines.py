@@ -19,7 +19,7 @@ from aide_compare.lines.change import Counts, Fields, Standing
 from aide_compare.lines.reader import ENCODE, ODD, Reader, Refused, reader_over
 from aide_compare.show.digest import rooms_of
 
-FORMAT = 3
+KEPT_LINES_FORMAT = 3
 SHARES = 16  # Each severity of each group of owners has one of so many shares of the limit.
 SIZES = "select level, owners, sum(line_size) from changes group by 1, 2"
 KEEP = f"""
@@ -39,7 +39,7 @@ def kept_lines(judged: Judged, limit: int) -> Iterator[bytes]:
     rooms = rooms_of(limit, [min(size, limit // SHARES) for size in sizes], sizes)
     for (level, owners, _), room in zip(parts, rooms):
         table.do(KEEP, level, owners, room)
-    yield ENCODE({"format": FORMAT}).encode() + b"\n"
+    yield ENCODE({"format": KEPT_LINES_FORMAT}).encode() + b"\n"
     listed = 0
     for row in table.rows("is_listed", order="place"):
         listed += 1
@@ -69,7 +69,7 @@ class KeptLines(Reader):
     """The changes that were kept of a host; after the last one `told` says how many there were that
     are not silent. What cannot be read is a Refused."""
 
-    format = FORMAT
+    format = KEPT_LINES_FORMAT
     is_proved = False  # A disk may have damaged a value.
     to_read = 0
 

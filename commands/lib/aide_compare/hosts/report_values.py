@@ -10,7 +10,7 @@ from aide_compare.base.words import KINDS, SEVERITIES, counted, date_of
 from aide_compare.compare.state import State
 from aide_compare.lines.change import Change, Counts, Fields, change_of
 
-FORMAT = 4
+REPORT_FORMAT = 4
 # What the lines are that were kept of a host.
 WHOLE = "whole"
 CUT = "cut"
@@ -63,7 +63,7 @@ class Summary(NamedTuple):
         del numbers["counts"]
         canary = numbers.pop("canary")
         lines = 1 + self.counts.hosts + self.changes
-        fields: Fields = {"record": "summary", "format": FORMAT, **numbers, "lines": lines}
+        fields: Fields = {"record": "summary", "format": REPORT_FORMAT, **numbers, "lines": lines}
         if canary:
             fields["canary"] = canary
         return fields

@@ -9,7 +9,7 @@ import re
 import time
 from contextlib import ExitStack, closing, suppress
 
-from aide_compare.base.ending import Fault, Status, failing, reason, say, write_all
+from aide_compare.base.ending import Fault, OSErrorAsFault, Status, reason, say, write_all
 from aide_compare.base.directories import closed_after, open_directory
 from aide_compare.base.files import copy_file, is_locked, open_regular, read_file, unlink
 from aide_compare.base.replacement import NewFile, replace
@@ -93,7 +93,7 @@ class HostDirectory:
 
     def remove_all(self) -> None:
         """Removes all that is kept of the host but its state."""
-        with failing(f"cannot remove what is kept of {self.host}"):
+        with OSErrorAsFault(f"cannot remove what is kept of {self.host}"):
             for name in os.listdir(self.path):
                 self.remove(name)
             os.rmdir(self.path)
@@ -145,7 +145,7 @@ class HostDirectory:
 
 def make_private(path: str) -> None:
     """Makes a directory, if it is not there. One that another user can write is a Fault."""
-    with failing("cannot make the directory " + path), suppress(FileExistsError):
+    with OSErrorAsFault("cannot make the directory " + path), suppress(FileExistsError):
         os.mkdir(path, 0o700)
     with open_directory(path) as directory:
         if directory.others:

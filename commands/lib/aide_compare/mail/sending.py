@@ -16,7 +16,7 @@ from contextlib import suppress
 from functools import partial
 
 from aide_compare.base.directories import LISTING, Directory, closed_after, open_directory
-from aide_compare.base.ending import Fault, Status, failing, say
+from aide_compare.base.ending import Fault, OSErrorAsFault, Status, say
 from aide_compare.base.escapes import shown
 from aide_compare.base.files import in_memory
 from aide_compare.base.processes import run_on
@@ -33,7 +33,7 @@ AUTH_ALERT = 4 * 8 + 1
 MAX_ANSWER = 1 << 16
 LOG_SECONDS = 5
 MAX_WAITING = 64
-MAX_BYTES = 64 << 20  # Of a mail that waits.
+MAX_MAIL_BYTES = 64 << 20  # Of a mail that waits.
 
 Transport = Callable[[bytes], object]
 
@@ -93,7 +93,7 @@ def refusal_of(way: Transport, message: bytes) -> str | None:
     """Why a message was not taken, or None. One such reason is that no process can be started, or
     no pipe made for it."""
     try:
-        with failing("nothing can be started to send it"):
+        with OSErrorAsFault("nothing can be started to send it"):
             way(message)
     except Fault as fault:
         return fault.text
@@ -146,7 +146,7 @@ def waiting_mail(directory: Directory, name: str) -> bytes:
     with open(os.open(name, flags, dir_fd=directory.fd), "rb") as file:
         status = os.fstat(file.fileno())
         is_ours = stat.S_ISREG(status.st_mode) and status.st_uid == os.geteuid()
-        if not is_ours or status.st_size > MAX_BYTES:
+        if not is_ours or status.st_size > MAX_MAIL_BYTES:
             raise Fault(Status.DEVICE, f"{shown(name)} is no mail that this user has put there")
         return file.read()
 
@@ -159,7 +159,7 @@ def send_all(path: str, way: Transport) -> None:
         for name in waiting_in(directory):
             try:
                 what = f"cannot send or remove the mail {shown(name)}"
-                with failing(what), suppress(FileNotFoundError):  # Another run has sent it.
+                with OSErrorAsFault(what), suppress(FileNotFoundError):  # Another run has sent it.
                     deliver(way, waiting_mail(directory, name))
                     os.unlink(name, dir_fd=directory.fd)
             except Fault as fault:
