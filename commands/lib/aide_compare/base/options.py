@@ -14,7 +14,6 @@ from aide_compare.base.kinds import (
     digest_digits,
     duration,
     file_path,
-    matching,
     pattern,
     size,
     some_text,
@@ -229,17 +228,25 @@ HOST_TIME = Option(
     kind=duration,
     default=600,
 )
-JOBS = Option(
-    "--jobs",
-    "how many hosts at a time (8)",
-    metavar="N",
-    kind=matching(r"[1-9][0-9]{0,2}", "a number from 1 to 999", int),
-    default=8,
-)
 HOSTS_FILE = "/etc/aide-compare/hosts"
 HOSTS_OPERAND = Operand(
     "HOSTS-FILE", f"a name a line; - is standard input ({HOSTS_FILE})", "?", HOSTS_FILE
 )
+HOSTS_OPTION = Option(
+    "--hosts-file",
+    f"the file that gets the name of a host, or loses it ({HOSTS_FILE})",
+    metavar="FILE",
+    default=HOSTS_FILE,
+)
+
+
+class HostsAsked(Asked):
+    """What the options of all commands over hosts ask for."""
+
+    store: str = field(HOST_STORE)
+    seconds: int = field(HOST_TIME)
+
+
 NO_DEFAULTS = Option("--no-defaults", "do not read the defaults in /etc/aide-compare")
 
 # The options of a comparison that may stand in the file of defaults, those of them that are for the

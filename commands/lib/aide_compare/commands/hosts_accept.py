@@ -6,13 +6,11 @@ from collections.abc import Sequence
 
 from aide_compare.base.ending import Fault, Status
 from aide_compare.base.options import (
-    HOST_STORE,
-    HOST_TIME,
     KEEP_OPEN,
     MAX_SIZE,
     QUIET,
     SHA256,
-    Asked,
+    HostsAsked,
     Operand,
     field,
 )
@@ -34,12 +32,10 @@ aide.db.previous.""",
 )
 
 
-class HostAcceptRequest(Asked):
+class HostAcceptRequest(HostsAsked):
     """What the options of `hosts accept` ask for."""
 
     is_quiet: bool = field(QUIET, help="do not print what was done")
-    store: str = field(HOST_STORE)
-    seconds: int = field(HOST_TIME)
     max_size: int = field(
         MAX_SIZE,
         default=MAX_BASELINE,

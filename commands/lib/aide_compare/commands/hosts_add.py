@@ -8,8 +8,7 @@ from functools import partial
 
 from aide_compare.base.ending import Fault, OSErrorAsFault, Status, status_of, tell
 from aide_compare.base.files import reopened
-from aide_compare.base.options import HOST_STORE, HOST_TIME, HOSTS_FILE, SHA256, Asked, Operand
-from aide_compare.base.options import field, option
+from aide_compare.base.options import HOSTS_OPTION, SHA256, HostsAsked, Operand, field
 from aide_compare.base.parser import Help, read
 from aide_compare.base.processes import limit_memory
 from aide_compare.base.terminal import answer_to
@@ -34,14 +33,10 @@ baseline of HOST already, or it sent no sound database.""",
 )
 
 
-class AddRequest(Asked):
+class AddRequest(HostsAsked):
     """What the options ask for."""
 
-    store: str = field(HOST_STORE)
-    seconds: int = field(HOST_TIME)
-    hosts_file: str = option(
-        "--hosts-file", f"the file that gets the names ({HOSTS_FILE})", "FILE", default=HOSTS_FILE
-    )
+    hosts_file: str = field(HOSTS_OPTION)
     digest: str | None = field(
         SHA256, help="of one HOST: what its own zcat -f FILE | sha256sum has said"
     )

@@ -30,10 +30,7 @@ Exit status, the highest of all hosts: 0 nothing to read, 1 to 7 changes that ar
 silent, above 7 some host was not compared. 15 if arguments or a host's name are wrong, 17 if the
 list of what is left out is; 18 if the command itself fails.""",
 )
-EMPTY = b"@@begin_db
-@@db_spec name
-@@end_db
-"
+EMPTY = b"@@begin_db\n@@db_spec name\n@@end_db\n"
 
 
 def results_beside(

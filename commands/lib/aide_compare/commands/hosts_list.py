@@ -5,7 +5,7 @@ from collections.abc import Sequence
 
 from aide_compare.base.ending import Status, tell
 from aide_compare.base.escapes import guarded
-from aide_compare.base.options import HOST_STORE, HOST_TIME, HOSTS_OPERAND, RESULT_AGE, Asked, field
+from aide_compare.base.options import HOSTS_OPERAND, RESULT_AGE, HostsAsked, field
 from aide_compare.base.parser import Help, read
 from aide_compare.base.words import date_of
 from aide_compare.hosts.hosts_file import hosts_of
@@ -21,11 +21,9 @@ Prints a line for each host of HOSTS-FILE: its name, its last status, and what i
 )
 
 
-class ListRequest(Asked):
+class ListRequest(HostsAsked):
     """What the options ask for."""
 
-    store: str = field(HOST_STORE)
-    seconds: int = field(HOST_TIME)
     max_age: int = field(RESULT_AGE)
     hosts_file: str = field(HOSTS_OPERAND)
 

@@ -7,8 +7,7 @@ from contextlib import closing, suppress
 
 from aide_compare.base.ending import Fault, OSErrorAsFault, Status, tell
 from aide_compare.base.escapes import shown
-from aide_compare.base.options import HOST_STORE, HOST_TIME, HOSTS_FILE, Asked, Operand
-from aide_compare.base.options import field, option
+from aide_compare.base.options import HOSTS_OPTION, HostsAsked, Operand, field
 from aide_compare.base.parser import Help, read
 from aide_compare.hosts.hosts_file import remove_host
 from aide_compare.hosts.hosts_read import directory_of
@@ -28,17 +27,10 @@ removed.""",
 )
 
 
-class RemoveRequest(Asked):
+class RemoveRequest(HostsAsked):
     """What the options ask for."""
 
-    store: str = field(HOST_STORE)
-    seconds: int = field(HOST_TIME)
-    hosts_file: str = option(
-        "--hosts-file",
-        f"the file that has the name of HOST ({HOSTS_FILE})",
-        "FILE",
-        default=HOSTS_FILE,
-    )
+    hosts_file: str = field(HOSTS_OPTION)
     host: str = field(Operand("HOST", "its name"))
 
 

@@ -9,7 +9,6 @@ from functools import partial
 from aide_compare.base.ending import Fault, Status, write_blocks
 from aide_compare.base.options import (
     ATTACH_PAGE,
-    HOST_STORE,
     HOST_TIME,
     HOSTS_FILE,
     HOSTS_OPERAND,
@@ -19,7 +18,7 @@ from aide_compare.base.options import (
     STORE,
     TO,
     WEEKLY,
-    Asked,
+    HostsAsked,
     field,
     option,
 )
@@ -53,11 +52,10 @@ MAX_NAMES = 20  # Of the hosts of a change, for people.
 MAX_MAILED_PAGE = 500000
 
 
-class ReportRequest(Asked):
+class ReportRequest(HostsAsked):
     """What the options ask for."""
 
     is_quiet: bool = field(QUIET, help="print nothing if there is nothing to report")
-    store: str = field(HOST_STORE, help=f"where the reports are kept ({STORE})")
     max_age: int = field(
         RESULT_AGE,
         help="a host that was compared longer ago counts as not compared (26h; 0: no limit)",

@@ -8,19 +8,16 @@ from collections.abc import Mapping, Sequence
 from contextlib import closing
 
 from aide_compare.base.ending import Fault, Status
-from aide_compare.base.kinds import duration
+from aide_compare.base.kinds import duration, matching
 from aide_compare.base.options import (
     CONFIG,
     EXCLUDE,
     EXCLUDE_FROM,
-    HOST_STORE,
-    HOST_TIME,
     HOSTS_OPERAND,
-    JOBS,
     MAX_SIZE,
     NO_DEFAULTS,
     QUIET,
-    Asked,
+    HostsAsked,
     field,
     option,
 )
@@ -48,16 +45,20 @@ MAX_AHEAD = 600
 SAME_FOR = 50 * 3600
 
 
-class HostsRequest(Asked):
+class HostsRequest(HostsAsked):
     """What the options of `hosts compare` ask for, and what is beside them."""
 
     is_quiet: bool = field(
         QUIET,
         help="only hosts with changes that are not silent, or not compared, and a summary",
     )
-    store: str = field(HOST_STORE)
-    seconds: int = field(HOST_TIME)
-    jobs: int = field(JOBS)
+    jobs: int = option(
+        "--jobs",
+        "how many hosts at a time (8)",
+        "N",
+        kind=matching(r"[1-9][0-9]{0,2}", "a number from 1 to 999", int),
+        default=8,
+    )
     no_fetch: bool = option("--no-fetch", "compare what was fetched before")
     canary: str | None = option(
         "--canary",
