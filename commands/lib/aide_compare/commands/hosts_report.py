@@ -35,7 +35,7 @@ from aide_compare.hosts.hosts_text import Report, headline, report_lines, short_
 from aide_compare.hosts.report_values import CUT, UNREADABLE, HostCounts, Summary
 from aide_compare.lines.reader import ENCODE
 from aide_compare.mail.message import build, clean, within
-from aide_compare.mail.sending import alert, deliver, sendmail_transport
+from aide_compare.mail.sending import deliver, transport_for
 
 HELP = Help(
     name="aide-compare hosts report",
@@ -133,11 +133,7 @@ class HostsReport:
     def send(self, request: ReportRequest, address: str) -> None:
         """Sends one mail about all hosts; if there is nothing to say, a heartbeat if one is due."""
         title = headline(self.report.summary)
-        try:
-            way = sendmail_transport(request.mail_seconds)
-        except Fault as fault:
-            alert(f"{fault.text}; {title}")
-            raise
+        way = transport_for(title, request.mail_seconds)
         if not self.is_alarm:
             if request.weekly:
                 counts = self.report.summary.counts

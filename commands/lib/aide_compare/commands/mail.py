@@ -34,8 +34,7 @@ from aide_compare.compare.state import State, read_state
 from aide_compare.compare.work import failed_comparison
 from aide_compare.lines.reader import Reader, Refused, reader_over
 from aide_compare.mail.message import build, clean, host_name, subject_of
-from aide_compare.mail.sending import Transport, alert, deliver, queue_transport, send_all
-from aide_compare.mail.sending import sendmail_transport
+from aide_compare.mail.sending import deliver, send_all, transport_for
 from aide_compare.show.result import result_text
 from aide_compare.show.notes import told_of
 
@@ -192,18 +191,6 @@ WEEK = 7 * 86400
 TEST_TEXT = "This is a test of aide-compare mail. Mails of this host arrive.\n"
 
 
-def transport_for(request: MailRequest, news: str) -> Transport:
-    """The way of a mail; none leaves before that is there. Without it the system log has the
-    news."""
-    try:
-        if request.queue:
-            return queue_transport(request.queue)
-        return sendmail_transport(request.seconds)
-    except Fault as fault:
-        alert(f"{fault.text}; {news}")
-        raise
-
-
 def short_mail(request: MailRequest, subject: str, text: str) -> bytes:
     """A mail that is not about changes."""
     return build(request.address, f"aide on {host_name()}: {subject}", clean(text))
@@ -251,8 +238,9 @@ def columns_before(request: MailRequest) -> Sequence[str] | None:
 
 def compare_and_mail(request: MailRequest) -> int:
     state, message = compared(request)
+    news = subject_of(state) if state.status else "no difference"
     try:
-        way = transport_for(request, subject_of(state) if state.status else "no difference")
+        way = transport_for(news, request.seconds, request.queue)
     except Fault as fault:
         raise Fault(fault.status, f"{fault.text}; the comparison ended with status {state.status}")
     if message:
@@ -279,7 +267,7 @@ def empty_queue(request: MailRequest, directory: str) -> int:
     news = f"what waits stays in {directory}"
     if request.unit_failed:
         news = failure_text(request.unit_failed)
-    way = transport_for(request, news)
+    way = transport_for(news, request.seconds)
     if request.unit_failed:
         deliver(way, short_mail(request, "the comparison failed", f"{news}\n"))
     send_all(directory, way)
@@ -295,6 +283,7 @@ def main(arguments: Sequence[str]) -> int:
     if request.send_queue:
         return empty_queue(request, request.send_queue)
     if request.is_test:
-        deliver(transport_for(request, "a test"), short_mail(request, "test", TEST_TEXT))
+        way = transport_for("a test", request.seconds, request.queue)
+        deliver(way, short_mail(request, "test", TEST_TEXT))
         return Status.OK
     return compare_and_mail(request)

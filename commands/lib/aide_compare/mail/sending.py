@@ -48,11 +48,6 @@ def find_mailer() -> str:
     raise Fault(Status.DEVICE, "cannot find sendmail, so no mail can be sent")
 
 
-def sendmail_transport(seconds: int) -> Transport:
-    """The way by sendmail, which has to be there."""
-    return partial(by_sendmail, find_mailer(), seconds)
-
-
 def by_sendmail(path: str, seconds: int, message: bytes) -> None:
     """Hands a message to sendmail, which lives on if this process is ended: a mail that is on its
     way should go. Postfix's one tries for ever if it cannot write to the spool, so it gets a time
@@ -129,7 +124,6 @@ def queue_transport(path: str) -> Transport:
     """A way that keeps a message in this directory for the unit that sends it."""
     with open_directory(path, make=True) as directory:
         if len(waiting_in(directory)) >= MAX_WAITING:
-            alert(f"{MAX_WAITING} mails wait in {path}: none can be sent")
             text = f"{MAX_WAITING} mails wait already in {shown(path)}: none is sent"
             raise Fault(Status.DEVICE, text)
     name = f"{time.time_ns():020d}-{os.getpid()}.mail"
@@ -138,6 +132,18 @@ def queue_transport(path: str) -> Transport:
         replace(os.path.join(path, name), message, 0o600, "the mail that waits")
 
     return keep
+
+
+def transport_for(news: str, seconds: int, queue: str | None = None) -> Transport:
+    """The way of a mail; none leaves before that is there. Without it the system log has the
+    news."""
+    try:
+        if queue:
+            return queue_transport(queue)
+        return partial(by_sendmail, find_mailer(), seconds)
+    except Fault as fault:
+        alert(f"{fault.text}; {news}")
+        raise
 
 
 def waiting_mail(directory: Directory, name: str) -> bytes:
