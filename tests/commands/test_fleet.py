@@ -20,7 +20,12 @@ COMPARE = "aide-compare hosts compare"
 COUNTS = "added 1, removed 1, changed 2"
 DIFFERS = f"7 {COUNTS}: 4 open of 4 changes"
 PAIR = ("good1", "good2", "good3", "good4", "good5", "good6")
-SSH = '''while [ "${1#-}" != "$1" ]; do [ "$1" = -o ] && shift; shift; done
+# It asks for a key where no way to log in is tried, and knows it then.
+SSH = '''words=$*
+while [ "${1#-}" != "$1" ]; do [ "$1" = -o ] && shift; shift; done
+case $words in
+    *PreferredAuthentications=none*) echo "$1 KEY" >> "ROOT/known_hosts"; exit 255 ;;
+esac
 [ ! -e "ROOT/down/$1" ] || { echo "ssh: connect to host $1 port 22: Connection refused" >&2; exit 255; }
 case $1 in
     endless) exec cat /dev/zero ;;
@@ -28,6 +33,7 @@ case $1 in
     silent) echo $$ > ROOT/ssh.pid; exec sleep 300 ;;
     unknown) printf 'Host key verification failed.\\r\\n' >&2; exit 255 ;;
     changed) printf 'REMOTE HOST IDENTIFICATION HAS CHANGED!\\nHost key verification failed.\\n' >&2; exit 255 ;;
+    denied) echo "root@denied: Permission denied (publickey)." >&2; exit 255 ;;
     coloured) printf 'a\\033[31mb\\302\\233c\\n' >&2; exit 1 ;;
     killer) kill -9 $PPID; exit 1 ;;
 esac

@@ -108,12 +108,9 @@ class FleetNightsTest(CommandTest):
         fleet.send(NAMES, mark)
         self.assertEqual(fleet.night(), {}, "an idle night")
         hosts = self.path("hosts")
-        said = fleet.compare("-q", "--canary", CANARY, "--no-fetch", hosts)
-        self.assertEqual((said.output_text, said.error_text), ("", ""), "nobody is named")
-        without = fleet.compare("-q", "--no-fetch", hosts)
-        self.assertEqual(
-            (without.output_text, without.error_text), ("", ""), "nor without a canary"
-        )
+        for words in (("--canary", CANARY), ()):
+            said = fleet.compare("-q", *words, "--no-fetch", hosts)
+            self.assertEqual((said.output_text, said.error_text), ("", ""), "nobody is named")
 
     def test_upgrade(self) -> None:
         """Night 1: the canary is named, and who has a mark. The canary is accepted. Night 2: hosts
@@ -198,9 +195,8 @@ class ListedOnceTest(CommandTest):
         backdoor = program("/bin/nmap", b"nmap")
         www = measured(weak, backdoor)
         db1 = (measured(program("/bin/su", b"hard"), program("/sbin/x", b"x")), www)
-        self.assertEqual(
-            self.opened({"www": (www, www), "db1": db1}), {"db1": "/bin/nmap /bin/su /sbin/x"}
-        )
+        found = self.opened({"www": (www, www), "db1": db1})
+        self.assertEqual(found, {"db1": "/bin/nmap /bin/su /sbin/x"})
         went = (measured(weak, program("/sbin/x", b"x")), measured(weak))
         other = (measured(weak, program("/sbin/x", b"another")), measured(weak))
         found = self.opened({"www": went, "db1": other, "db2": went})

@@ -48,9 +48,8 @@ class HostsQuietTest(CommandTest):
         self.assertIn("left_out=1\n", state, "how many changes are left out")
         self.assertIn(f"new_sha256={sha256(idle(9))}\n", state, "of the whole database")
         report = fleet.call("aide-compare hosts report", "--format=json", self.hosts)
-        self.assertEqual(
-            (report.status, report.output_text.count('"left_out":1')), (0, HOSTS), report
-        )
+        counted = (report.status, report.output_text.count('"left_out":1'))
+        self.assertEqual(counted, (0, HOSTS), report)
         said = fleet.compare("--exclude-from", "none", self.hosts)
         self.assertEqual((said.status, said.output_text), (18, ""), "a missing file of paths")
         self.write("faulty", "/a\nb\n")
@@ -83,18 +82,15 @@ class HostsQuietTest(CommandTest):
                 fleet.compare(self.hosts)
             self.write("down/h01", "")
             self.assertIn(f"h01 18 {cause}\n", fleet.compare(self.hosts).output_text)
-            brief = fleet.call(
-                "aide-compare hosts report", "--format=brief", self.hosts
-            ).output_text
-            self.assertIn(f"  h01: {cause}\n", brief, "the whole cause")
+            brief = fleet.call("aide-compare hosts report", "--format=brief", self.hosts)
+            self.assertIn(f"  h01: {cause}\n", brief.output_text, "the whole cause")
             said = fleet.compare("--no-fetch", self.hosts)
             fleet.not_compared(cause, said, "h01")
             self.assertNotIn("h01: ", said.output_text, "the name once")
             self.assertEqual(f"; it differs: {COUNTS}" in said.output_text, had_one, said)
             os.remove(self.path("down/h01"))
-        self.assertIn(
-            f"h01 {DIFFERS}\n", fleet.compare(self.hosts).output_text, "it is there again"
-        )
+        said = fleet.compare(self.hosts)
+        self.assertIn(f"h01 {DIFFERS}\n", said.output_text, "it is there again")
         os.mkdir(self.path("store/hosts/h01/not-fetched"))
         said = fleet.compare("--no-fetch", self.hosts)
         told = "it was not fetched the last time: its cause cannot be read"
@@ -109,9 +105,7 @@ class HostsQuietTest(CommandTest):
         said = fleet.call("aide-compare hosts list", hosts)
         self.assertEqual((said.status, said.error_text), (0, ""), said)
         lines = said.output_text.splitlines()
-        self.assertRegex(
-            lines[0], "^h01 7 added 1, removed 1, changed 2: 4 open of 4 changes, 20.*"
-        )
+        self.assertTrue(lines[0].startswith(f"h01 {DIFFERS}, 20"), lines)
         self.assertEqual(lines[2], "never 18 was never compared")
         words = ("--hosts-file", hosts)
         remove = "aide-compare hosts remove"

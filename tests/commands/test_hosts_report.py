@@ -329,6 +329,5 @@ class HostsReportTest(CommandTest):
         self.assertIn(words, hosts.report().output_text)
         self.assertLess(os.stat(self.path("store/hosts/long/lines")).st_size, 21 << 10)
         said = hosts.compare_one("long", "--quiet")
-        self.assertEqual(
-            (said.status, said.output_text.count("\n"), said.error_text), (1, 2, ""), said
-        )
+        ended = (said.status, said.output_text.count("\n"), said.error_text)
+        self.assertEqual(ended, (1, 2, ""), said)

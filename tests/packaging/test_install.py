@@ -131,9 +131,8 @@ class InstallingTest(InstallTest):
             self.assertEqual((done.status, differing(tree(folder), before)), (0, []), done)
             old, new = os.fstat(running.fileno()), os.stat(running.name)
             self.assertNotEqual(old.st_ino, new.st_ino, "the program is replaced by another file")
-            self.assertEqual(
-                len(running.read()), new.st_size, "a run of the old one keeps its file"
-            )
+            size = len(running.read())
+            self.assertEqual(size, new.st_size, "a run of the old one keeps its file")
         os.remove(more)
         done = self.run_install(folder, source=source)
         self.assertEqual((done.status, os.path.exists(target)), (0, False), done)
@@ -259,9 +258,8 @@ class InstallingTest(InstallTest):
             ((), 7, []),
         ):
             pair = [os.path.join(TOP, "examples/small_tree", name) for name in ("old.db", "new.db")]
-            done = self.run_words(
-                [os.path.join(source, "compare"), *words, *pair], env=surroundings
-            )
+            command = [os.path.join(source, "compare"), *words, *pair]
+            done = self.run_words(command, env=surroundings)
             self.assertEqual((done.status, self.built()), (status, wanted), (words, done))
 
     def test_build(self) -> None:
@@ -288,9 +286,8 @@ class InstallingTest(InstallTest):
             with open(program, "rb") as file:
                 self.assertEqual(found[target][1], file.read(), target)
         done = self.run_words([folder + "/usr/local/bin/aide-compare", "--version"])
-        self.assertEqual(
-            (done.status, done.output_text.count("a proved build: yes\n")), (0, 2), done
-        )
+        proved = done.output_text.count("a proved build: yes\n")
+        self.assertEqual((done.status, proved), (0, 2), done)
         os.remove(built)
         script = os.path.join(source, "packaging", "make_package")
         words = ["sh", script, "--output", self.path("unbuilt/out")]

@@ -58,6 +58,7 @@ CAPABLE = entry(PROGRAM, capabilities=SETUID)
 LISTS_ANNA = entry(FILE, acl=acl_field(TO_ANNA))
 LISTS_READER = entry(FILE, acl=acl_field(ANNA_READS))
 LISTS_MASKED = entry(FILE, acl=acl_field(MASKED))
+LISTS_NEW_FILES = entry(DIRECTORY, acl=acl_field(b"", TO_ANNA))
 OF_ANNA = entry(FILE, uid=ANNA)
 UNKNOWN = entry(FILE)._replace(permissions=None)
 OWNERLESS = entry(DIRECTORY, uid=None)
@@ -88,12 +89,7 @@ RIGHTS: list[tuple[str, Side, Side, str]] = [
     ("a wider mask", LISTS_MASKED, LISTS_ANNA, "high"),
     ("a list that says the mode", entry(FILE), entry(FILE, acl=acl_field(OF_MODE)), "medium"),
     ("a list of an unknown form", entry(FILE), entry(FILE, acl=b"odd"), "high"),
-    (
-        "a list for new files",
-        entry(DIRECTORY),
-        entry(DIRECTORY, acl=acl_field(b"", TO_ANNA)),
-        "high",
-    ),
+    ("a list for new files", entry(DIRECTORY), LISTS_NEW_FILES, "high"),
     ("a file that all can write", entry(FILE), entry(0o100666), "high"),
     ("a file that came so", None, entry(0o100666), "high"),
     ("a file that was so", entry(0o100666), entry(0o100666), "medium"),
@@ -180,6 +176,7 @@ REMOVED = (
     b"/usr/share/ca-certificates/mozilla/x.crt",
     b"/usr/local/share/ca-certificates/x.crt",
 )
+SHIPPED_TABLE = Severity()
 TABLE = b"low added,link /opt/*\nhigh any /opt/*\n"
 
 
@@ -199,23 +196,22 @@ def lacking(old: Side, new: Side) -> Iterator[tuple[str, Side, Side]]:
         yield f"the new {name}", old, side
 
 
-def rank_of(table: Severity, path: bytes, old: Side, new: Side) -> int:
+def rank_of(path: bytes, old: Side, new: Side, table: Severity = SHIPPED_TABLE) -> int:
     return table.rank(path, held_by(old, new))
 
 
-def level_of(table: Severity, path: bytes, old: Side, new: Side) -> str:
-    return SEVERITIES[rank_of(table, path, old, new) // RANKS]
+def level_of(path: bytes, old: Side, new: Side, table: Severity = SHIPPED_TABLE) -> str:
+    return SEVERITIES[rank_of(path, old, new, table) // RANKS]
 
 
 class SeverityTest(ModuleTest):
     def test_rights(self) -> None:
         """What is given to whom decides, wherever it is; and each line of such rights is seen by
         itself."""
-        table = Severity()
         for label, old, new, wanted in RIGHTS:
-            self.expect(f"severity of {label}", level_of(table, b"/srv/x", old, new), wanted)
+            self.expect(f"severity of {label}", level_of(b"/srv/x", old, new), wanted)
             if wanted == "high":
-                found = level_of(table, b"/usr/share/doc/x", old, new)
+                found = level_of(b"/usr/share/doc/x", old, new)
                 self.expect(f"severity of {label} among texts", found, "high")
 
     def test_start(self) -> None:
@@ -226,35 +222,31 @@ class SeverityTest(ModuleTest):
     def test_unknown(self) -> None:
         """What a side does not say makes no change less severe, but for the owner of the old one:
         whoever began to ask for owners sees them come."""
-        table = Severity()
         for label, old, new, _ in RIGHTS:
             for path in (b"/srv/x", b"/usr/bin/x", b"/usr/lib/x/x"):
-                level = SEVERITIES.index(level_of(table, path, old, new))
-                for lacked, *sides in lacking(old, new):
-                    found = SEVERITIES.index(level_of(table, path, *sides))
+                level = SEVERITIES.index(level_of(path, old, new))
+                for lacked, before, now in lacking(old, new):
+                    found = SEVERITIES.index(level_of(path, before, now))
                     self.holds(f"{label} at {path!r}, without {lacked}", found <= level, found)
 
     def test_directories(self) -> None:
-        table = Severity()
         for path, new in DIRECTORIES.items():
-            level = level_of(table, path, entry(DIRECTORY), new)
+            level = level_of(path, entry(DIRECTORY), new)
             self.expect(f"other rights on {path.decode()}", level, "high")
-        names = level_of(table, b"/usr/bin", entry(DIRECTORY), entry(DIRECTORY))
+        names = level_of(b"/usr/bin", entry(DIRECTORY), entry(DIRECTORY))
         self.expect("names in /usr/bin", names, "low")
 
     def test_shipped(self) -> None:
-        table = Severity()
         for wanted, paths in SHIPPED.items():
             for path in paths.split():
-                level = level_of(table, os.fsencode(path), None, entry(FILE))
+                level = level_of(os.fsencode(path), None, entry(FILE))
                 self.expect(f"a file {path}", level, wanted)
         for program in PROGRAMS:
-            level = level_of(table, program, None, entry(PROGRAM))
+            level = level_of(program, None, entry(PROGRAM))
             self.expect(f"a program {program.decode()}", level, "high")
 
     def test_lines(self) -> None:
         """Each line of the shipped table decides on some change that is tried here."""
-        table = Severity()
         shipped = (path for paths in SHIPPED.values() for path in paths.split())
         tried: list[tuple[bytes, Side, Side]] = [
             *((os.fsencode(path), None, entry(FILE)) for path in shipped),
@@ -263,7 +255,7 @@ class SeverityTest(ModuleTest):
             *((b"/srv/x", old, new) for _, old, new, _ in RIGHTS),
             (b"/usr/bin/x", None, entry(0o120777)),
         ]
-        decided = {rank_of(table, *each) % RANKS for each in tried}
+        decided = {rank_of(*each) % RANKS for each in tried}
         lines = re.findall("^(?:high|medium|low) .*", read("commands/share/severity.conf"), re.M)
         missing = [line for number, line in enumerate(lines) if number not in decided]
         self.assertEqual(missing, [])
@@ -271,11 +263,10 @@ class SeverityTest(ModuleTest):
     def test_removed(self) -> None:
         """A certificate of an authority, or a package, that went gives nobody a right; another one
         does."""
-        table = Severity()
         for path in REMOVED:
-            self.expect("a removed one", level_of(table, path, entry(FILE), None), "low")
-            self.expect("an added one", level_of(table, path, None, entry(FILE)), "high")
-            self.expect("another one", level_of(table, path, entry(FILE), entry(FILE)), "high")
+            self.expect("a removed one", level_of(path, entry(FILE), None), "low")
+            self.expect("an added one", level_of(path, None, entry(FILE)), "high")
+            self.expect("another one", level_of(path, entry(FILE), entry(FILE)), "high")
 
     def test_owners(self) -> None:
         """Nobody but root makes a device, so it is named among root's changes."""
@@ -286,18 +277,17 @@ class SeverityTest(ModuleTest):
     def test_order(self) -> None:
         """Rights come first, then what logs in, starts or loads code, then programs, then all
         else."""
-        table = Severity()
         ranks = [
-            rank_of(table, b"/srv/x", None, entry(FILE, capabilities=SETUID)),
-            rank_of(table, b"/etc/passwd", entry(FILE), entry(FILE)),
-            rank_of(table, b"/etc/group", entry(FILE), entry(FILE)),
-            rank_of(table, b"/etc/cron.d/x", None, entry(FILE)),
-            rank_of(table, b"/usr/bin/x", None, entry(PROGRAM)),
-            rank_of(table, b"/var/log/x", None, entry(PROGRAM)),
-            rank_of(table, b"/etc/alternatives/x", None, entry(0o120777)),
-            rank_of(table, b"/var/lib/dpkg/info/x.postinst", None, entry(PROGRAM)),
-            rank_of(table, b"/srv/x", None, entry(FILE)),
-            rank_of(table, b"/var/log/x", None, entry(FILE)),
+            rank_of(b"/srv/x", None, entry(FILE, capabilities=SETUID)),
+            rank_of(b"/etc/passwd", entry(FILE), entry(FILE)),
+            rank_of(b"/etc/group", entry(FILE), entry(FILE)),
+            rank_of(b"/etc/cron.d/x", None, entry(FILE)),
+            rank_of(b"/usr/bin/x", None, entry(PROGRAM)),
+            rank_of(b"/var/log/x", None, entry(PROGRAM)),
+            rank_of(b"/etc/alternatives/x", None, entry(0o120777)),
+            rank_of(b"/var/lib/dpkg/info/x.postinst", None, entry(PROGRAM)),
+            rank_of(b"/srv/x", None, entry(FILE)),
+            rank_of(b"/var/log/x", None, entry(FILE)),
         ]
         self.expect("the order of severities", ranks, sorted(set(ranks)))
 
@@ -305,12 +295,12 @@ class SeverityTest(ModuleTest):
         """Another table, those that are no tables, and a shipped one that is missing."""
         table = Severity(self.write("table", TABLE))
         link = entry(0o120777)
-        self.assertEqual(level_of(table, b"/opt/a", None, link), "low")
-        self.assertEqual(level_of(table, b"/srv/a", None, link), "medium", "in no line")
-        self.assertEqual(level_of(table, b"/opt/a", None, entry(FILE)), "high", "its second line")
+        self.assertEqual(level_of(b"/opt/a", None, link, table), "low")
+        self.assertEqual(level_of(b"/srv/a", None, link, table), "medium", "in no line")
+        self.assertEqual(level_of(b"/opt/a", None, entry(FILE), table), "high", "its second line")
         rows = b"low any /a/b*\nhigh any /a/b\nlow any /a/c\nhigh any /a/*\nmedium any /a/c\n"
         first = Severity(self.write("table", rows))
-        levels = [level_of(first, path, None, link) for path in (b"/a/b", b"/a/c", b"/a/d")]
+        levels = [level_of(path, None, link, first) for path in (b"/a/b", b"/a/c", b"/a/d")]
         self.assertEqual(levels, ["low", "low", "high"], "the first line, whatever its pattern")
         for line in (b"urgent any /*", b"low /opt/*", b"low odd /opt/*", b"low any opt", b"low"):
             self.fails(15, "table, line 1: ", Severity, self.write("table", line + b"\n"))

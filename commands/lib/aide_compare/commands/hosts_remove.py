@@ -10,8 +10,7 @@ from aide_compare.base.escapes import shown
 from aide_compare.base.options import HOSTS_OPTION, HostsAsked, Operand, field
 from aide_compare.base.parser import Help, read
 from aide_compare.hosts.hosts_file import remove_host
-from aide_compare.hosts.hosts_read import directory_of
-from aide_compare.hosts.store import check_name
+from aide_compare.hosts.store import HostDirectory, check_name
 
 HELP = Help(
     name="aide-compare hosts remove",
@@ -38,7 +37,7 @@ def remove_directory(host: str, store: str, seconds: int) -> bool:
     """Removes what a store keeps of a host. Whether there was something."""
     if not os.path.lexists(f"{store}/hosts/{host}"):
         return False
-    with closing(directory_of(host, store, seconds, is_alone=True)) as directory:
+    with closing(HostDirectory(store, host, seconds)) as directory:
         directory.remove_all()
         with OSErrorAsFault(f"cannot remove the state of {host}"), suppress(FileNotFoundError):
             os.unlink(directory.state_path)

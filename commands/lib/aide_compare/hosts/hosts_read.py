@@ -114,11 +114,10 @@ def read_host(
         return host._replace(report=kept.report, listed=kept.listed)
 
 
-def directory_of(name: str, store: str, seconds: int, is_alone: bool = False) -> HostDirectory:
+def directory_of(name: str, store: str, seconds: int) -> HostDirectory:
     """The directory of a host that was compared once. Nothing is made for any other."""
     if not os.path.isdir(store):
         raise Fault(Status.DEVICE, f"there is no directory {shown(store)}")
     if not os.path.lexists(f"{store}/hosts/{check_name(name)}"):
         raise Fault(Status.DEVICE, "was never compared")
-    lock = fcntl.LOCK_EX if is_alone else fcntl.LOCK_SH
-    return HostDirectory(store, name, seconds, lock)
+    return HostDirectory(store, name, seconds, fcntl.LOCK_SH)
