@@ -150,10 +150,10 @@ def lines_of_mail(
 ) -> list[str]:
     """The lines of the text."""
     from aide_compare.mail.columns import note_lines
-    from aide_compare.mail.text import Mail, fault_lines, text_of_changes, text_of_unjudged
+    from aide_compare.mail.text import MAX_LINES, Mail, text_of_changes, text_of_unjudged
 
     if comparison.has_failed:
-        return fault_lines(notes)
+        return note_lines(notes, MAX_LINES)
     warnings = [guarded(warning) for warning in comparison.warnings]
     if not comparison.differs:
         return [*note_lines(warnings), *note_lines(notes)]

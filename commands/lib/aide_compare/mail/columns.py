@@ -15,12 +15,12 @@ def wrapped(text: str) -> list[str]:
     return wrap(text, WIDTH, subsequent_indent="  ", break_on_hyphens=False)
 
 
-def note_lines(notes: Iterable[str]) -> list[str]:
-    """Notes, of which those that have no room are counted."""
+def note_lines(notes: Iterable[str], limit: int = MAX_NOTES) -> list[str]:
+    """Notes in so many lines. Those that have no room are counted."""
     lines = [line for note in notes for line in wrapped(note)]
-    if len(lines) <= MAX_NOTES:
+    if len(lines) <= limit:
         return lines
-    return [*lines[: MAX_NOTES - 1], f"({len(lines) - MAX_NOTES + 1} more lines of notes)"]
+    return [*lines[: limit - 1], f"({len(lines) - limit + 1} more lines)"]
 
 
 def command_lines(words: Sequence[str], end: str = "") -> list[str]:

@@ -14,7 +14,7 @@ from aide_compare.base.files import is_name
 from aide_compare.base.words import KINDS
 from aide_compare.changes.judged import Judged
 from aide_compare.compare.state import State
-from aide_compare.mail.columns import WIDTH, command_lines, note_lines, wrapped
+from aide_compare.mail.columns import WIDTH, command_lines, note_lines
 from aide_compare.show.brief import brief
 from aide_compare.show.digest import MAIL, shortened_path
 
@@ -95,11 +95,3 @@ def text_of_unjudged(
     if sum(counts) > len(lines):
         lines.append(f"  and {sum(counts) - len(lines)} more")
     return [*head, *lines, "", *end]
-
-
-def fault_lines(lines: Iterable[str]) -> list[str]:
-    """The lines of a mail that says why nothing was compared."""
-    wrapped_lines = [part for line in lines for part in wrapped(line)]
-    if len(wrapped_lines) <= MAX_LINES:
-        return wrapped_lines
-    return [*wrapped_lines[: MAX_LINES - 1], f"({len(wrapped_lines) - MAX_LINES + 1} more lines)"]
