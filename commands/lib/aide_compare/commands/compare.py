@@ -28,7 +28,6 @@ from aide_compare.compare.report import report_of
 from aide_compare.compare.unpack import Opened
 from aide_compare.compare.work import FAILURES, compare_opened, failed_comparison, open_databases
 from aide_compare.lines.change import Counts
-from aide_compare.show.outputs import OUTPUTS
 from aide_compare.show.notes import no_difference, told_of
 
 if TYPE_CHECKING:
@@ -70,13 +69,11 @@ class Row:
 
 
 def output_rows(request: CompareRequest) -> list[Row]:
-    """The outputs that options name, each with its place."""
+    """The outputs that options name, with their places open."""
     rows = []
-    for row in OUTPUTS:
-        path = request.outputs.get(row.option.name)
-        if path:
-            what = f"the output of {row.option.name}"
-            rows.append(Row(open_output(path, what), row.make))
+    for row, path in request.outputs:
+        what = f"the output of {row.option.name}"
+        rows.append(Row(open_output(path, what), row.make))
     return rows
 
 
@@ -120,7 +117,7 @@ class ComparisonJob:
 
     def _files(self) -> list[str]:
         """The paths of the outputs that are files."""
-        paths = [path for path in self.options.outputs.values() if descriptor_of(path) is None]
+        paths = [path for _, path in self.options.outputs if descriptor_of(path) is None]
         return [*paths, self.options.state] if self.options.state else paths
 
     def _open_outputs(self) -> None:

@@ -1,7 +1,7 @@
 """What a comparison is asked for: by a command line, and by the administrator's defaults."""
 from __future__ import annotations
 
-from collections.abc import Mapping, Sequence
+from collections.abc import Sequence
 from typing import TYPE_CHECKING
 
 from aide_compare.base.ending import Fault, Status
@@ -30,7 +30,7 @@ from aide_compare.commands.defaults import ADVICE, comparison_defaults, exclusio
 from aide_compare.compare.comparison import ComparisonInput
 from aide_compare.compare.configuration import NONE
 from aide_compare.compare.outputs import STDOUT, descriptor_of
-from aide_compare.show.outputs import OUTPUTS
+from aide_compare.show.outputs import OUTPUTS, OutputRow
 
 if TYPE_CHECKING:
     from aide_compare.base.paths import Pattern
@@ -93,15 +93,15 @@ class CompareRequest(Asked):
         return {**super().rows(), **{row.option.attribute: row.option for row in OUTPUTS}}
 
     @property
-    def outputs(self) -> Mapping[str, str]:
-        """The places of further outputs, by the names of their options."""
-        places = {row.option.name: vars(self)[row.option.attribute] for row in OUTPUTS}
-        return {name: path for name, path in places.items() if path}
+    def outputs(self) -> Sequence[tuple[OutputRow, str]]:
+        """Further outputs, each with its place."""
+        places = [(row, vars(self)[row.option.attribute]) for row in OUTPUTS]
+        return [(row, path) for row, path in places if path]
 
     @property
     def outputs_on_stdout(self) -> int:
         """How many further outputs have standard output as their place."""
-        return [descriptor_of(path) for path in self.outputs.values()].count(STDOUT)
+        return [descriptor_of(path) for _, path in self.outputs].count(STDOUT)
 
 
 def given_by(arguments: Sequence[str], usage: str = HELP.usage) -> Given:
