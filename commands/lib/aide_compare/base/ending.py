@@ -10,7 +10,7 @@ from enum import IntEnum
 
 # And not contextlib: with no memory left, CPython 3.11 was seen never to end in its import.
 
-from aide_compare.base.escapes import guarded
+from aide_compare.base.escapes import encoded, guarded
 
 
 class Status(IntEnum):
@@ -91,14 +91,14 @@ def write_blocks(descriptor: int, parts: Iterable[bytes]) -> None:
 
 def tell(*lines: str) -> None:
     """Writes lines to standard output."""
-    write_all(1, "".join(line + "\n" for line in lines).encode("utf-8", "backslashreplace"))
+    write_all(1, encoded("".join(line + "\n" for line in lines)))
 
 
 def say(text: str) -> None:
     """Writes a line with the name of the command to standard error. If that cannot be written,
     nothing else changes."""
     try:
-        write_all(2, f"{_name}: {guarded(text)}\n".encode("utf-8", "backslashreplace"))
+        write_all(2, encoded(f"{_name}: {guarded(text)}\n"))
     except OSError:
         pass
 

@@ -72,6 +72,11 @@ def shown(text: str | bytes, limit: int = 5000) -> str:
     return line
 
 
+def encoded(text: str) -> bytes:
+    """The bytes of a text for people. What UTF-8 does not have is escaped."""
+    return text.encode("utf-8", "backslashreplace")
+
+
 def unshown(text: bytes) -> bytes:
     """The bytes that `shown` has escaped in a text."""
     return re.sub(rb"\\([0-3][0-7]{2})", lambda match: bytes([int(match.group(1), 8)]), text)

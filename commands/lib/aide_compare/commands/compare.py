@@ -7,7 +7,7 @@ from contextlib import suppress
 from typing import TYPE_CHECKING
 
 from aide_compare.base.ending import Fault, Status, write_blocks
-from aide_compare.base.escapes import shown
+from aide_compare.base.escapes import encoded, shown
 from aide_compare.base.files import blocks_of, nameless
 from aide_compare.base.replacement import ANYBODY_READS
 from aide_compare.base.rights import become_owner, give_up
@@ -248,13 +248,13 @@ class Printer:
                 text += f"aide-compare: {comparison.standings.words()}\n"
             if comparison.standings and comparison.standings.left_out and not is_brief:
                 text += f"aide-compare: {comparison.standings.left_out_words()}\n"
-        yield text.encode("utf-8", "backslashreplace")
+        yield encoded(text)
 
     def _failure(self, comparison: Comparison, _judged: Judged | None) -> Iterable[bytes]:
         """Why nothing was compared."""
         if comparison.has_failed:
             text = told_of(comparison, self.request.is_quiet, self.request.is_verbose)
-            yield text.encode("utf-8", "backslashreplace")
+            yield encoded(text)
 
 
 def main(arguments: Sequence[str]) -> int:

@@ -7,6 +7,7 @@ from collections.abc import Iterable, Iterator, Sequence
 from functools import partial
 
 from aide_compare.base.ending import Fault, Status, write_blocks
+from aide_compare.base.escapes import encoded
 from aide_compare.base.options import (
     ATTACH_PAGE,
     HOST_TIME,
@@ -128,7 +129,7 @@ class HostsReport:
 
     def brief(self) -> Iterator[bytes]:
         """Yields the lines of the short text."""
-        return map(encoded, short_lines(self.report))
+        return map(as_line, short_lines(self.report))
 
     def send(self, request: ReportRequest, address: str) -> None:
         """Sends one mail about all hosts; if there is nothing to say, a heartbeat if one is due."""
@@ -155,11 +156,11 @@ class HostsReport:
             return self.json()
         if form == "page":
             return page(self.report)
-        return map(encoded, report_lines(self.report))
+        return map(as_line, report_lines(self.report))
 
 
-def encoded(line: str) -> bytes:
-    return (line + "\n").encode("utf-8", "backslashreplace")
+def as_line(text: str) -> bytes:
+    return encoded(f"{text}\n")
 
 
 def request_of(arguments: Sequence[str]) -> ReportRequest:

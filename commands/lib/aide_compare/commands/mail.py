@@ -11,7 +11,7 @@ from functools import partial
 from typing import TYPE_CHECKING
 
 from aide_compare.base.ending import Fault, Status, say, why_of, write_all
-from aide_compare.base.escapes import guarded
+from aide_compare.base.escapes import encoded, guarded
 from aide_compare.base.kinds import unit_name
 from aide_compare.base.options import (
     ATTACH_PAGE,
@@ -121,7 +121,7 @@ def message_of(
     unless the last run has not compared it either."""
     state = comparison.state()
     if comparison.status == Status.USAGE:  # Who has typed it sees it at once.
-        write_all(2, told_of(comparison).encode("utf-8", "backslashreplace"))
+        write_all(2, encoded(told_of(comparison)))
     columns: list[str] = []
     if before is not None:
         columns = [name for name in state.skipped if name not in before]

@@ -8,6 +8,7 @@ from collections.abc import Mapping, Sequence
 from contextlib import closing
 
 from aide_compare.base.ending import Fault, Status
+from aide_compare.base.escapes import encoded
 from aide_compare.base.kinds import duration, matching
 from aide_compare.base.options import (
     CONFIG,
@@ -162,7 +163,7 @@ def keep_comparison(directory: HostDirectory, request: HostsRequest) -> State:
     if why:
         state = as_not_compared(directory, state, why)
         errors += state.error + "\n"
-    directory.write(ERRORS, errors.encode("utf-8", "backslashreplace"))
+    directory.write(ERRORS, encoded(errors))
     return state
 
 

@@ -11,6 +11,7 @@ from contextlib import ExitStack, closing, suppress
 
 from aide_compare.base.ending import Fault, OSErrorAsFault, Status, reason, say, write_all
 from aide_compare.base.directories import closed_after, open_directory
+from aide_compare.base.escapes import encoded
 from aide_compare.base.files import copy_file, is_locked, open_regular, read_file, unlink
 from aide_compare.base.replacement import NewFile, replace
 from aide_compare.compare.state import State
@@ -122,7 +123,7 @@ class HostDirectory:
         """Keeps the cause why the host could not be fetched, for a later comparison without a
         fetch."""
         with suppress(OSError):
-            self.write(CAUSE, cause.encode("utf-8", "backslashreplace")[:MAX_CAUSE])
+            self.write(CAUSE, encoded(cause)[:MAX_CAUSE])
 
     def fetch_cause(self) -> str:
         """The cause why the host could not be fetched the last time; "" if it could."""

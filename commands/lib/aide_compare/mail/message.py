@@ -7,7 +7,7 @@ import time
 from collections.abc import Iterable, Sequence
 from typing import TYPE_CHECKING
 
-from aide_compare.base.escapes import shown_lines
+from aide_compare.base.escapes import encoded, shown_lines
 from aide_compare.base.words import KINDS
 from aide_compare.compare.state import State, not_compared
 
@@ -56,7 +56,7 @@ def within(parts: Iterable[bytes], limit: int) -> bytes | None:
 
 def clean(text: str | bytes) -> bytes:
     """The bytes of lines for a mail, in which all bytes of others are escaped."""
-    return shown_lines(text).encode("utf-8", "backslashreplace")
+    return encoded(shown_lines(text))
 
 
 def encoding_of(data: bytes) -> str:

@@ -17,7 +17,7 @@ from functools import partial
 
 from aide_compare.base.directories import LISTING, Directory, closed_after, open_directory
 from aide_compare.base.ending import Fault, OSErrorAsFault, Status, say
-from aide_compare.base.escapes import shown
+from aide_compare.base.escapes import encoded, shown
 from aide_compare.base.files import in_memory
 from aide_compare.base.processes import run_on
 from aide_compare.base.replacement import replace
@@ -79,7 +79,7 @@ def alert(text: str) -> bool:
         with suppress(OSError), socket.socket(socket.AF_UNIX, socket.SOCK_DGRAM) as log:
             log.settimeout(LOG_SECONDS)
             log.connect(path)
-            log.send(data.encode("utf-8", "backslashreplace"))
+            log.send(encoded(data))
             return True
     return False
 

@@ -5,7 +5,7 @@ from __future__ import annotations
 from collections.abc import Iterator, Sequence
 from textwrap import wrap
 
-from aide_compare.base.escapes import guarded
+from aide_compare.base.escapes import encoded, guarded
 from aide_compare.base.words import SEVERITIES
 from aide_compare.changes.judged import Judged
 from aide_compare.lines.change import Counts, Standing
@@ -77,4 +77,4 @@ def brief_of(judged: Judged | None) -> bytes:
     if judged is None:
         return b""
     text = "\n".join([*brief(judged, SCREEN), "", ""])
-    return text.encode("utf-8", "backslashreplace")
+    return encoded(text)

@@ -5,7 +5,7 @@ import json
 from collections.abc import Collection, Iterator
 from typing import TYPE_CHECKING, NamedTuple
 
-from aide_compare.base.escapes import guarded, shown
+from aide_compare.base.escapes import encoded, guarded, shown
 from aide_compare.base.words import date_of
 from aide_compare.lines.attributes import FORMS, STRENGTH, word_of
 from aide_compare.lines.change import Change, Value, change_of
@@ -81,7 +81,7 @@ def changes_with_values(
             lines += change_lines(change)
             if marks.package:
                 lines.append(f"    package    {guarded(marks.package)}\n")
-            yield "".join(lines).encode("utf-8", "backslashreplace")
+            yield encoded("".join(lines))
             is_there = True
     if not is_there:
         yield b"no change at these paths\n"
