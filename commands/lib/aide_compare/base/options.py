@@ -215,12 +215,6 @@ CRITICAL = Option(
 USER = Option("--user", "drop privileges to this user first", metavar="NAME")
 # Where the databases of many hosts are kept, and how long a host may take.
 STORE = "/var/lib/aide-compare"
-HOST_STORE = Option(
-    "--store",
-    f"where the databases are kept ({STORE})",
-    metavar="DIR",
-    default=STORE,
-)
 HOST_TIME = Option(
     "--time",
     "the most time for a host (10m)",
@@ -243,7 +237,7 @@ HOSTS_OPTION = Option(
 class HostsAsked(Asked):
     """What the options of all commands over hosts ask for."""
 
-    store: str = field(HOST_STORE)
+    store: str = option("--store", f"where the databases are kept ({STORE})", "DIR", default=STORE)
     seconds: int = field(HOST_TIME)
 
 

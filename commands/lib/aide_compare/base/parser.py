@@ -120,17 +120,16 @@ class Help(NamedTuple):
     epilog: str = ""
     usage: str = "%(prog)s [OPTIONS]"
 
-    @property
-    def hint(self) -> str:
-        """The line that follows a fault of the command line."""
-        return f"try: {self.name} --help"
+    def fault(self, text: str) -> Fault:
+        """A fault of the command line."""
+        return Fault(Status.USAGE, text, f"try: {self.name} --help")
 
 
 class Parser(argparse.ArgumentParser):
     """The parser of what a command is asked for. Faults have the status 15."""
 
     def __init__(self, asked: type[Asked], help: Help) -> None:
-        self.hint = help.hint
+        self.help = help
         super().__init__(
             prog=help.name,
             description=help.description,
@@ -169,7 +168,7 @@ class Parser(argparse.ArgumentParser):
         raise Done  # After --help and --version; faults are in `error`.
 
     def error(self, message: str) -> NoReturn:
-        raise Fault(Status.USAGE, message.replace(OPERAND, ""), self.hint)
+        raise self.help.fault(message.replace(OPERAND, ""))
 
 
 def read(

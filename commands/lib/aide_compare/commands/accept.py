@@ -187,10 +187,10 @@ class AcceptOptions(Asked):
     def refuse_contradictions(self) -> None:
         """Refuses what means nothing without another word, or with it."""
         if len(self.files) not in (0, 2):
-            raise Fault(Status.USAGE, "name NEW and BASELINE, or none", HELP.hint)
+            raise HELP.fault("name NEW and BASELINE, or none")
         if not self.digest and (self.is_quiet or not can_ask()):
             why = "give --sha256 DIGEST, or run this on a terminal to be asked"
-            raise Fault(Status.USAGE, why, HELP.hint)
+            raise HELP.fault(why)
 
 
 def title_line(request: AcceptRequest, accepted: Accepted) -> str:

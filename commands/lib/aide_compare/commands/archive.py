@@ -191,7 +191,7 @@ def request_of(arguments: Sequence[str]) -> ArchiveRequest:
     request = read(ArchiveRequest, arguments, HELP)
     if len(request.databases) not in (0, 2) or not request.directories:
         why = "name --from, and both databases, OLD and NEW, or none"
-        raise Fault(Status.USAGE, why, HELP.hint)
+        raise HELP.fault(why)
     databases = request.databases or machines_databases(arguments)
     output = request.output
     if output and os.path.realpath(output) in [os.path.realpath(path) for path in databases]:

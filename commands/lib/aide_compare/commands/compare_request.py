@@ -113,12 +113,12 @@ def check_databases(request: CompareRequest) -> None:
     """Refuses operands that do not name both databases."""
     databases = request.databases
     if len(databases) == 1:
-        raise Fault(Status.USAGE, "name both databases, OLD and NEW, or none", HELP.hint)
+        raise HELP.fault("name both databases, OLD and NEW, or none")
     if len(databases) > 2:
         text = f"more than two databases: {shown(databases[-1], 200)}"
-        raise Fault(Status.USAGE, text, HELP.hint)
+        raise HELP.fault(text)
     if request.configuration and not databases:
-        raise Fault(Status.USAGE, "--config names no databases: name OLD and NEW", HELP.hint)
+        raise HELP.fault("--config names no databases: name OLD and NEW")
 
 
 def checked(given: Given) -> CompareRequest:

@@ -56,7 +56,7 @@ class HostAcceptRequest(HostsAsked):
 def main(arguments: Sequence[str]) -> int:
     request = read(HostAcceptRequest, arguments, HELP)
     if not request.digest:
-        raise Fault(Status.USAGE, "give --sha256", HELP.hint)
+        raise HELP.fault("give --sha256")
     host = check_name(request.host)
     if not os.path.lexists(f"{request.store}/hosts/{host}/{NEW_FILE}"):
         text = f"{host}: nothing was fetched yet; see aide-compare hosts add --help"

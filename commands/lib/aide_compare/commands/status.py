@@ -220,9 +220,9 @@ def request_of(arguments: Sequence[str]) -> StatusRequest:
     is_conditional = request.is_quiet or request.max_age != RESULT_AGE.default
     if is_conditional and request.format not in ("text", "nagios"):
         text = "only --format text and --format nagios have --quiet and --max-age"
-        raise Fault(Status.USAGE, text, HELP.hint)
+        raise HELP.fault(text)
     if request.output != STDOUT and request.format != "prometheus":
-        raise Fault(Status.USAGE, "only --format prometheus has an OUTPUT", HELP.hint)
+        raise HELP.fault("only --format prometheus has an OUTPUT")
     return request.but(is_daily=request.state == defaults.get(STATE.attribute, DAILY))
 
 
