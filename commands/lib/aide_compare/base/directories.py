@@ -24,6 +24,11 @@ PLACE = os.O_PATH | os.O_DIRECTORY | os.O_CLOEXEC
 LISTING = os.O_RDONLY | os.O_DIRECTORY | os.O_CLOEXEC
 
 
+def others_can_write(status: os.stat_result) -> bool:
+    """Whether a user who is neither root nor the caller can write a file with this status."""
+    return status.st_uid not in (0, os.geteuid()) or bool(status.st_mode & OTHERS_WRITE)
+
+
 def failure(number: int, text: str | None = None) -> OSError:
     return OSError(number, text or os.strerror(number))
 

@@ -6,11 +6,12 @@ import fcntl
 import os
 import stat
 import time
-from collections.abc import Iterator
+from collections.abc import Iterable, Iterator
 from contextlib import suppress
 from io import BufferedRandom
+from typing import IO
 
-from aide_compare.base.directories import OTHERS_WRITE, PLACE, closed_after, failure, walked
+from aide_compare.base.directories import PLACE, closed_after, failure, others_can_write, walked
 from aide_compare.base.ending import Fault, OSErrorAsFault, Status, write_all
 from aide_compare.base.escapes import shown
 
@@ -126,9 +127,7 @@ def open_trusted(path: str, what: str) -> int:
     """The same of a file of the administrator, such as "the rules". Only root and the caller may be
     able to change it."""
     descriptor, is_safe = _opened(path, what + " ")
-    status = os.fstat(descriptor)
-    is_owned = status.st_uid in (0, os.geteuid())
-    if not is_safe or not is_owned or status.st_mode & OTHERS_WRITE:
+    if not is_safe or others_can_write(os.fstat(descriptor)):
         os.close(descriptor)
         raise Fault(Status.DEVICE, f"other users can write {what} {shown(path)}")
     return descriptor
@@ -160,6 +159,19 @@ def blocks_of(source: int) -> Iterator[bytes]:
     while block := os.pread(source, BLOCK, offset):
         yield block
         offset += len(block)
+
+
+def digests_of(file: IO[bytes], labels: Iterable[str], limit: int) -> dict[str, str]:
+    """The digests, in base 16, of the next bytes of a file, at most so many, by labels such as
+    SHA256."""
+    import hashlib
+
+    hashes = {label: hashlib.new(label.lower().replace("-", "_")) for label in labels}
+    while block := file.read(min(BLOCK, limit)):
+        limit -= len(block)
+        for each in hashes.values():
+            each.update(block)
+    return {label: each.hexdigest() for label, each in hashes.items()}
 
 
 def copy_file(source: int, target: int) -> None:

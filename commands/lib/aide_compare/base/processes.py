@@ -28,6 +28,8 @@ PR_SET_PDEATHSIG = 1
 # What takes the bytes that come from a descriptor, as they come.
 Taker = Callable[[bytes], object]
 NO_DESCRIPTORS: Mapping[int, int] = MappingProxyType({})
+# Of a program of the system, whatever the caller's is.
+PLAIN_ENVIRONMENT = MappingProxyType({"PATH": "/usr/bin:/bin", "LC_ALL": "C", "HOME": "/"})
 
 
 class OverTime(Fault):

@@ -5,7 +5,6 @@ reported as any other change."""
 from __future__ import annotations
 
 import base64
-import hashlib
 import io
 import os
 import tarfile
@@ -18,9 +17,9 @@ from typing import IO
 from aide_compare.base.database import ABSENT, SET_ID
 from aide_compare.base.ending import Fault, Status
 from aide_compare.base.escapes import shown
-from aide_compare.base.files import BLOCK, nameless
+from aide_compare.base.files import BLOCK, digests_of, nameless
 from aide_compare.base.paths import escaped, key_of_path, path_of, unescaped
-from aide_compare.changes.signed import Signed, file_name, open_package, tar_of
+from aide_compare.changes.signed import MAX_UNPACKED, Signed, file_name, open_package, tar_of
 from aide_compare.changes.usr import MERGED, usr_of
 from aide_compare.changes.weighing import directory_of
 from aide_compare.compare.kept_open import NEW_SIDE, OLD_SIDE, EntryReader, SidedEntry, key_of_entry
@@ -41,12 +40,9 @@ FieldsByColumn = dict[str, bytes]
 
 def content_of(file: IO[bytes]) -> FieldsByColumn:
     """The size of a file, and two digests: a strong one says what a content is."""
-    hashes = {name: hashlib.new(name) for name in STRONG}
-    while block := file.read(BLOCK):
-        for each in hashes.values():
-            each.update(block)
-    digests = {name: base64.b64encode(each.digest()) for name, each in hashes.items()}
-    return {**digests, "size": b"%d" % file.tell()}
+    digests = digests_of(file, STRONG, MAX_UNPACKED)
+    fields = {name: base64.b64encode(bytes.fromhex(text)) for name, text in digests.items()}
+    return {**fields, "size": b"%d" % file.tell()}
 
 
 def members_of(file: IO[bytes]) -> Iterator[tuple[bytes, FieldsByColumn]]:

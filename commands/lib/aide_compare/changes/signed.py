@@ -20,7 +20,7 @@ from aide_compare.base.directories import closed_after
 from aide_compare.base.ending import Fault, OSErrorAsFault, Status, write_all
 from aide_compare.base.escapes import shown
 from aide_compare.base.files import BLOCK, in_memory, nameless, open_regular, read_file, read_whole
-from aide_compare.base.processes import Taker, bounded, run
+from aide_compare.base.processes import PLAIN_ENVIRONMENT, Taker, bounded, run
 from aide_compare.base.program import Drain
 
 MAX_INDEX = 128 << 20
@@ -40,7 +40,6 @@ Unpack = Callable[[bytes], bytes]
 UNPACK: dict[str, Unpack] = {"": bytes, ".xz": lzma.decompress, ".gz": gzip.decompress}
 FIELD = re.compile(r"^(Package|Version|Architecture|Filename|SHA256|Size): *(.*)$", re.M)
 ALL = "all"
-ENVIRONMENT = {"PATH": "/usr/bin:/bin", "LC_ALL": "C", "HOME": "/"}
 
 # What an index has of a package, by the names of its fields, and the path of the InRelease file.
 Signed = dict[str, str]
@@ -57,7 +56,7 @@ class Release(NamedTuple):
 
 def run_tool(words: Sequence[str], takers: Mapping[int, Taker], files: Sequence[int]) -> int:
     """The status of a program of the system, whose descriptors from 4 on are these files."""
-    return run(words, takers, dict(enumerate(files, 4)), ENVIRONMENT)
+    return run(words, takers, dict(enumerate(files, 4)), PLAIN_ENVIRONMENT)
 
 
 def signed_text(release: Release, keys: int) -> str:
