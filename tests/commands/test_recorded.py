@@ -145,7 +145,9 @@ class RecordedTest(CommandTest):
             files = {LIB + b"tool.so.2": TWO, LIB + b"beside": TWO}
             host.packages.append(Package("tool", "2", files, listed=(LIB + b"tool.so",)))
             host.packages.append(Package("other", "1", {LIB + b"other": TWO}))
-            wanted = {LIB + b"tool.so": want, LIB + b"beside": RECORDED}
+            host.new.link(LIB + b"a", b"beside")
+            host.packages.append(Package("tool-a", "2", {LIB + b"a": TWO, LIB + b"beside": ONE}))
+            wanted = {LIB + b"tool.so": want, LIB + b"beside": RECORDED, LIB + b"a": OPEN}
             self.check(f"a link to {target!r}", host, wanted)
 
     def test_named(self) -> None:
@@ -196,12 +198,10 @@ class RecordedTest(CommandTest):
         host.new.link(LIB + b"tool.so", b"tool.so.2").file(LIB + b"ghost", TWO)
         host.new.link(LIB + b"evil.so", b"/tmp/evil").file(LIB + b"fresh", TWO)
         digest = hashlib.sha256(TWO).hexdigest()
-        rows = ["P\ttool\t1:2-3\t8"]
-        rows.append(f"F\t/usr/bin/tool\t{digest}\t\t0")
-        rows.append("F\t/usr/lib/tool.so\t\ttool.so.2\t0")
-        rows.append("F\t/usr/lib/evil.so\t\ttool.so.2\t0")
-        rows.append(f"F\t/usr/lib/ghost\t{digest}\t\t1")
-        rows += ["P\tfresh\t1\t8", f"F\t/usr/lib/fresh\t{digest}\t\t0"]
+        rows = [f"0\ttool 1:2-3\t{digest}\t/usr/bin/tool", "(none)", "0\tfresh 1"]
+        rows += [f"0\ttool 1:2-3\ttool.so.2\t/usr/lib/{name}.so" for name in ("tool", "evil")]
+        rows.append(f"1\ttool 1:2-3\t{digest}\t/usr/lib/ghost")
+        rows.append(f"0\tfresh 1\t{digest}\t/usr/lib/fresh")
         self.write("rpm.said", "".join(row + "\n" for row in rows))
         self.stub("rpm", f'[ "$1 $2" = "-qa --dbpath" ] && cat "{self.path("rpm.said")}"')
         wanted = {

@@ -24,7 +24,7 @@ SAMPLE = {
     b"/usr/lib/tool": "recorded medium tool 2",
 }
 # Records of packages that fail when the changes are grouped already.
-UNNAMED = "def unnamed(*_):\n    raise MemoryError\nDpkg.named\nDpkg.named = unnamed\n"
+UNNAMED = "named_packages\ndef named_packages(*_):\n    raise MemoryError\n"
 WORDS = "4 open (1 high), 1 recorded of 6 changes"
 BRIEF = f"""{WORDS}
 

@@ -12,7 +12,7 @@ from tests.commands.made_up import Package
 from aide_compare.base.ending import Fault
 from aide_compare.changes import packages
 from aide_compare.changes.applied import members_of
-from aide_compare.changes.packages import Dpkg, Member
+from aide_compare.changes.packages import Dpkg, Members
 
 TOOL = Package("tool", "2", {b"/usr/bin/tool": b"2"}, {b"/etc/tool": b"2", b"/etc/more": b"2"})
 GONE = Package("gone", "1", {b"/usr/bin/gone": b"1"}, state="deinstall ok config-files")
@@ -36,8 +36,8 @@ class PackagesTest(ModuleTest):
             self.write(f"dpkg/info/{package.name}.md5sums", package.sums())
         self.write("dpkg/status", TOOL.status() + b"\n" + GONE.status())
 
-    def members(self) -> list[Member]:
-        return list(Dpkg(self.path("dpkg")).members({b"/usr/bin/tool\n"}))
+    def members(self) -> dict[str, Members]:
+        return dict(Dpkg(self.path("dpkg")).members({b"/usr/bin/tool\n"}))
 
     def test_others(self) -> None:
         """No record is read that others can write, and none but a regular file."""
@@ -60,8 +60,11 @@ class PackagesTest(ModuleTest):
         self.write("dpkg/info/tool.list", TOOL.paths() + b"/more\n" * 100)
         names = ("tool.list", "tool.md5sums", "gone.list")
         size = sum(os.path.getsize(self.path(f"dpkg/info/{name}")) for name in names)
-        for name, most, found in (("MAX_LISTS", 1, 0), ("MAX_LISTS", 2, 2), ("MAX_BYTES", size, 2)):
+        found = {"tool 2": {b"/usr/bin/tool\n": "c81e728d9d4c2f636f067f89cc14862c"}}
+        for name, most, reads in (("MAX_LISTS", 1, 0), ("MAX_LISTS", 2, 1), ("MAX_BYTES", size, 1)):
             with mock.patch.object(packages, name, most):
-                self.expect(f"found, {name} {most}", len(self.members()), found)
+                self.expect(f"found, {name} {most}", self.members(), found if reads else {})
         with mock.patch.object(packages, "MAX_BYTES", size - 1):
             self.assertRaisesRegex(Fault, "has more than", self.members)
+        os.unlink(self.path("dpkg/info/tool.md5sums"))
+        self.gives({"tool 2": {b"/usr/bin/tool\n": ""}}, self.members)

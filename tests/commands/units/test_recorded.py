@@ -5,12 +5,13 @@ import hashlib
 
 from tests.commands.units.calls import ModuleTest
 
-from aide_compare.changes.packages import Member
-from aide_compare.changes.recorded import Contents, target_of
+from aide_compare.changes.recorded import Matcher, target_of
+from aide_compare.changes.table import Table
 from aide_compare.lines.change import Change, Value, Values
 
 
 LINK = Change(b"/a/b", "added", "Link", "", {}, {}, None)
+FILE = LINK._replace(type="File")
 
 
 class RecordedTest(ModuleTest):
@@ -26,23 +27,22 @@ class RecordedTest(ModuleTest):
         path = self.write("file", text).encode()
         kinds = ("MD5", "SHA1", "SHA256", "SHA3-512")
         digests = {name: hashlib.new(name, text).hexdigest() for name in kinds}
-        member = Member(path, "p", "MD5", digests["MD5"])
-        other = member._replace(digest="0" * 32)
+        own, other = digests["MD5"], "0" * 32
         strong: Values = {name: digests[name] for name in kinds[2:]}
-        rows: list[tuple[str, Values, Member, int, bool]] = [
-            ("the same digest", {"MD5": member.digest}, member, 0, True),
-            ("another one", {"MD5": member.digest}, other, 11, False),
-            ("read", strong, member, 11, True),
+        rows: list[tuple[str, Values, str, int, bool]] = [
+            ("the same digest", {"MD5": own}, own, 0, True),
+            ("another one", {"MD5": own}, other, 11, False),
+            ("read", strong, own, 11, True),
             ("read, another one", strong, other, 11, False),
-            ("no room", strong, member, 10, False),
-            ("no digest", {}, member, 11, False),
-            ("a weak digest", {"SHA1": digests["SHA1"]}, member, 11, False),
-            ("another content", {"SHA256": digests["SHA256"][::-1]}, member, 11, False),
-            ("only listed", strong, Member(path, "p"), 11, False),
+            ("no room", strong, own, 10, False),
+            ("no digest", {}, own, 11, False),
+            ("a weak digest", {"SHA1": digests["SHA1"]}, own, 11, False),
+            ("another content", {"SHA256": digests["SHA256"][::-1]}, own, 11, False),
+            ("only listed", strong, "", 11, False),
         ]
         for label, new, of, room, fits in rows:
-            contents = Contents()
-            self.expect("the room", contents.remaining, 2 << 30)
-            contents.remaining = room
-            self.expect(label, contents.fits(LINK._replace(path=path, new=new), of), fits)
-        self.gives(False, Contents().fits, LINK._replace(new=strong), member)
+            matcher = Matcher(Table(), lambda _: LINK)
+            self.expect("the room", matcher.remaining, 2 << 30)
+            matcher.remaining = room
+            self.expect(label, matcher.fits(FILE._replace(path=path, new=new), of), fits)
+        self.gives(False, matcher.fits, FILE._replace(new=strong), own)

@@ -13,11 +13,10 @@ from functools import cached_property
 from itertools import islice
 
 from aide_compare.base.ending import Fault, Status
-from aide_compare.changes.packages import Dpkg, NamedPackages, Rpm
+from aide_compare.changes.packages import Dpkg, NamedPackages, Rpm, named_packages
 from aide_compare.changes.recorded import Matcher
 from aide_compare.changes.severity import Severity
 from aide_compare.changes.table import NO_MARKS, Marks, Row, Table, Values
-from aide_compare.changes.usr import link_here, usr_of
 from aide_compare.changes.weighing import directory_of, known_of
 from aide_compare.lines.change import Change, Counts, Standing, change_of, silent_by
 from aide_compare.lines.reader import Forms, Reader
@@ -79,8 +78,8 @@ class Judged:
         """Finds out which changes are as the packages' records of this machine have them.
         `has_pair`: a trusted pair says which of the records are signed."""
         try:
-            Matcher(self.table, usr_of(link_here), self.read).match(records)
-            self.named = records.named(self.table, has_pair)
+            Matcher(self.table, self.read).match(records)
+            self.named = named_packages(self.table, records.packages, has_pair)
         except BaseException:
             self.table.forget_records()
             raise
