@@ -131,9 +131,6 @@ class OSErrorAsFault:
             raise Fault(Status.DEVICE, f"{self.what}: {reason(error)}") from None
 
 
-failing = OSErrorAsFault  # As changes/packages.py has it.
-
-
 def fault_of(error: BaseException) -> Fault:
     """The Fault that an exception means: itself, no memory, a call of the system that failed, or a
     mistake of this program."""
