@@ -52,7 +52,7 @@ class OutputsTest(PlacesTest):
         self.assertFalse(os.path.exists(self.path("none")))
 
     def test_values(self) -> None:
-        """The values of a frequent form are those of the line itself, however odd one of them."""
+        """The values of a frequent form are those of the line itself, however odd one is."""
         rows = Rows()
         usual = fields_of("/a", "changed", old={"Size": 0, "SHA256": "00"}, new={"MD5": "+/="})
         odd: list[dict[str, object]] = [
@@ -61,6 +61,6 @@ class OutputsTest(PlacesTest):
         odd += [{"Size": number} for number in (1 << 53, 10**14, -1, "7")]
         odd += [{"Lname": text} for text in ("100000000000000", "%b", "x")]
         for old in (usual["new"], *odd):
-            lines = [line_of({**usual, "old": old})] * 17
+            lines = [line_of({**usual, "old": old})] * 3
             for line in (*lines, line_of({**usual, "old": {"MD5": "7", "Size": 7}})):
                 self.assertEqual(rows._values(line), values_in(line))

@@ -36,9 +36,8 @@ AFTER_PATH = b',"summary":'
 KIND_END = len(b'{"kind":"add')
 # The numbers and the digests of a line, by the ends of the names of their attributes.
 VALUE = re.compile(rb':(?:(?<=[et]":)(?<!_out":)[0-9]+|(?<=[0-9BRT]":)"[^"]*"|(?<=[AO]L":)"[^"]*")')
-MAX_FORMS = 1 << 10
+MAX_FORMS = 1 << 9
 MAX_LINE = 1 << 11
-FREQUENT = 16
 NO_MATCH = re.compile(b"(?!)").fullmatch
 # The counts of the end by the accounts of lines.
 COUNTED = {
@@ -64,8 +63,7 @@ class Form:
         self.account = account_of(fields)
         self.left_out = left_out_by(fields)  # The number of the list's line, or 0.
         self.counted = (self.kind, self.account.value if self.account else "")
-        self.times = 0  # How often it was looked for.
-        # If it is frequent: what matches its lines, with their paths and values.
+        # What matches its lines, with their paths and values, if two stood behind one another.
         self.match = NO_MATCH
         self._values: dict[object, Any] = {}
 
@@ -108,8 +106,7 @@ class Forms:
             form = Form(line)
             if len(self.known) < MAX_FORMS and len(line) <= MAX_LINE:
                 self.known[text] = form
-        form.times += 1
-        if form.times == FREQUENT:
+        if form is self._last and form.match is NO_MATCH:
             form.learn()
         self._last = form
         return form
