@@ -5,7 +5,7 @@ from typing import Any
 
 from tests.commands.units.calls import ModuleTest
 
-from aide_compare.lines.change import Change, Counts, Standing, change_of
+from aide_compare.lines.change import Change, Counts, Standing, account_of, change_of
 from aide_compare.lines.reader import ODD
 
 LINE: dict[str, Any] = {
@@ -23,9 +23,8 @@ CHANGE = Change(
     letters="f >",
     old={"Size": 1, "Inode": 9999999999999999999, "LinkName": "9", "ACL": b"\xff"},
     new={"Size": None},
-    silent=None,
 )
-LEAST = Change(b"/a", "added", "Entry", "", {}, {}, None)
+LEAST = Change(b"/a", "added", "Entry", "", {}, {})
 COUNTS = Counts(100, 20, 3, 6, 1, 2, 3, 0, 1, 2, 7, 5)
 
 
@@ -44,9 +43,8 @@ class ChangesTest(ModuleTest):
             ({"standing": "same"}, None),
             ({}, None),
         ]
-        for more, silent in rows:
-            got = change_of({"path": "/a", "kind": "added", **more}).silent
-            self.expect(f"{more}", got, silent)
+        for fields, silent in rows:
+            self.gives(silent, account_of, fields)
 
     def test_none(self) -> None:
         rows: list[dict[str, Any]] = [
@@ -67,6 +65,7 @@ class ChangesTest(ModuleTest):
         ]
         for more in rows:
             with self.subTest(more=more), self.assertRaises(ODD):
+                account_of(more)
                 change_of({**LINE, **more})
 
     def test_counts(self) -> None:

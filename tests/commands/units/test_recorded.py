@@ -10,7 +10,7 @@ from aide_compare.changes.table import Table
 from aide_compare.lines.change import Change, Value, Values
 
 
-LINK = Change(b"/a/b", "added", "Link", "", {}, {}, None)
+LINK = Change(b"/a/b", "added", "Link", "", {}, {})
 FILE = LINK._replace(type="File")
 
 

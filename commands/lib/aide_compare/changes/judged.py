@@ -16,9 +16,9 @@ from aide_compare.base.ending import Fault, Status
 from aide_compare.changes.packages import Dpkg, NamedPackages, Rpm, named_packages
 from aide_compare.changes.recorded import Matcher
 from aide_compare.changes.severity import Severity
-from aide_compare.changes.table import NO_MARKS, Marks, Row, Table, Values
+from aide_compare.changes.table import Marks, Row, Table, Values
 from aide_compare.changes.weighing import directory_of, known_of
-from aide_compare.lines.change import Change, Counts, Standing, change_of, silent_by
+from aide_compare.lines.change import Change, Counts, Standing, change_of
 from aide_compare.lines.reader import Forms, Reader
 
 
@@ -46,7 +46,7 @@ class Judged:
         line_at = self.begin
         for form, path, key, line in reader.outlines():
             size = len(line)
-            silent = form.account and silent_by(form.account, path)
+            silent = form.account and form.silent(path)
             if silent is None:
                 known = form.value(known_of)
                 yield (
@@ -89,13 +89,13 @@ class Judged:
         """Yields the lines of all changes in the order of paths, with their marks."""
         forms = Forms()
         others = self.table.marks()
-        other = next(others, NO_MARKS)
+        next_at, marks = next(others)
         self.file.seek(self.begin)
         line_at = self.begin
         for line in islice(self.file, self.changes):
-            if line_at == other[0]:
-                yield line, other[1]
-                other = next(others, NO_MARKS)
+            if line_at == next_at:
+                yield line, marks
+                next_at, marks = next(others)
             else:
                 account = forms.of(line).account or Standing.OPEN
                 yield line, Marks(account.value)

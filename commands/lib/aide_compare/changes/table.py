@@ -93,7 +93,6 @@ class Row(NamedTuple):
 
 
 COLUMNS = ", ".join(Row._fields)
-NO_MARKS = (0, Marks(""))  # Behind those of all.
 
 
 class Table(Rows):
@@ -120,10 +119,11 @@ class Table(Rows):
         return map(Row._make, self.ask(question, *values))
 
     def marks(self) -> Iterator[tuple[int, Marks]]:
-        """Yields where the lines of all begin, and their marks, in the order of paths."""
+        """Yields where the lines of all begin, and their marks, in the order of paths; then 0."""
         question = "select line_at, standing, level, package from changes order by place"
         for line_at, *marks in self.ask(question):
             yield line_at, marks_of(*marks)
+        yield 0, Marks("")
 
     def row(self, place: int) -> Row:
         return next(self.rows("place = ?", place))

@@ -85,7 +85,6 @@ class Change(NamedTuple):
     letters: str  # The summary string of a report.
     old: Values
     new: Values
-    silent: Standing | None  # Its standing; None if it is not silent.
 
     @property
     def sides(self) -> tuple[Values, Values]:
@@ -111,13 +110,6 @@ def account_of(fields: Fields) -> Standing | None:
     return None
 
 
-def silent_by(account: Standing | None, path: bytes) -> Standing | None:
-    """The standing of a change with this account; None if it is not silent."""
-    if account is Standing.TRUSTED and WATCHERS.fullmatch(path):
-        return None
-    return account
-
-
 def _text_of(fields: Fields, key: str, default: str) -> str:
     """A member that is a text; a ValueError if it is none."""
     text = fields.get(key, default)
@@ -141,7 +133,6 @@ def change_of(fields: Fields) -> Change:
         letters=letters,
         old=values_of(fields, "old"),
         new=values_of(fields, "new"),
-        silent=silent_by(account_of(fields), path),
     )
 
 

@@ -16,8 +16,8 @@ from aide_compare.base.ending import Fault, Status
 from aide_compare.base.files import BLOCK
 from aide_compare.base.paths import SLASH, key_of_path
 from aide_compare.base.words import KINDS, SIDES, TRUSTED_SIDES, status_of_counts
-from aide_compare.lines.change import LEFT_OUT, Fields, Standing, account_of, change_of
-from aide_compare.lines.change import left_out_by
+from aide_compare.lines.change import LEFT_OUT, WATCHERS, Fields, Standing, account_of
+from aide_compare.lines.change import change_of, left_out_by
 
 T = TypeVar("T")
 FORMAT = 4
@@ -29,11 +29,10 @@ HEX = "_hex"  # At the end of the name of a text in base 16.
 # What a member of another type, or one that is missing, raises.
 ODD = (ValueError, KeyError, TypeError, AttributeError)
 ENCODE = json.JSONEncoder(separators=(",", ":")).encode
-# A path that is written as it is, and the beginning of its line.
+# A path that is written as it is, and a line that has one.
 PATH = rb'"path":"(/[^"\\\x00-\x1f]*)"'
-BEGINNING = re.compile(rb'\{"kind":"[a-z]+",' + PATH)
+PLAIN = re.compile(rb'(?s)\{"kind":"[a-z]+",' + PATH + rb".*\}\n")
 AFTER_PATH = b',"summary":'
-KIND_END = len(b'{"kind":"add')
 # The numbers and the digests of a line, by the ends of the names of their attributes.
 VALUE = re.compile(rb':(?:(?<=[et]":)(?<!_out":)[0-9]+|(?<=[0-9BRT]":)"[^"]*"|(?<=[AO]L":)"[^"]*")')
 MAX_FORMS = 1 << 9
@@ -66,6 +65,12 @@ class Form:
         # What matches its lines, with their paths and values, if two stood behind one another.
         self.match = NO_MATCH
         self._values: dict[object, Any] = {}
+
+    def silent(self, path: bytes) -> Standing | None:
+        """The standing of a change at this path; None if it is not silent."""
+        if self.account is Standing.TRUSTED and WATCHERS.fullmatch(path):
+            return None
+        return self.account
 
     def value(self, work: Callable[[bytes], T]) -> T:
         """What a function says of the first of these lines. It is asked once."""
@@ -100,7 +105,7 @@ class Forms:
         """The form of a line; one of ODD if it says no change."""
         if self._last is not None and self._last.match(line):
             return self._last
-        text = (line[:KIND_END], VALUE.sub(b"", line.rpartition(AFTER_PATH)[2]))
+        text = (line.partition(b",")[0], VALUE.sub(b"", line.rpartition(AFTER_PATH)[2]))
         form = self.known.get(text)
         if form is None:
             form = Form(line)
@@ -212,9 +217,9 @@ class Reader:
 
     def _found(self, line: bytes) -> tuple[Form, bytes] | None:
         """The form and the path of a change; None of the last line."""
-        match = BEGINNING.match(line) if self.is_proved and line.endswith(b"}\n") else None
+        match = self.is_proved and PLAIN.fullmatch(line)
         try:
-            if match is not None:
+            if match:
                 return self._forms.of(line), match[1]
             fields = self._object_of(line)
             if "end" not in fields:

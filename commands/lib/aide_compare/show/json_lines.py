@@ -9,7 +9,7 @@ from typing import TYPE_CHECKING
 
 from aide_compare.base.words import SIDES, TRUSTED_SIDES
 from aide_compare.changes.table import Marks
-from aide_compare.lines.change import Fields, Standing, silent_by
+from aide_compare.lines.change import Fields, Standing
 from aide_compare.lines.reader import ENCODE, HEX, Reader
 
 if TYPE_CHECKING:
@@ -47,8 +47,7 @@ def end_of(reader: Reader, comparison: Comparison, judged: Judged | None) -> Fie
 def marked_lines(reader: Reader) -> Iterator[tuple[bytes, Marks]]:
     """The lines of a Reader, each with the standing of its change, as far as the line has it."""
     for form, path, _, line in reader.outlines():
-        silent = form.account and silent_by(form.account, path)
-        yield line, Marks((silent or Standing.OPEN).value)
+        yield line, Marks((form.silent(path) or Standing.OPEN).value)
 
 
 def line_of(fields: Fields) -> bytes:
