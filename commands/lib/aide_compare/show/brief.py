@@ -3,7 +3,6 @@ what is open, the most severe first, and then what is recorded, package by packa
 from __future__ import annotations
 
 from collections.abc import Iterator, Sequence
-from textwrap import wrap
 
 from aide_compare.base.escapes import encoded, guarded
 from aide_compare.base.words import SEVERITIES
@@ -42,6 +41,8 @@ def silent_words(counts: Counts) -> str:
 
 def names_lines(title: str, names: Sequence[str], room: Room) -> list[str]:
     """As many names of packages as there are lines for, and how many more there are."""
+    from textwrap import wrap  # A millisecond that most runs do not need.
+
     words = [guarded(name)[:MAX_NAME] for name in names]
     count = len(words)
     while True:
