@@ -10,7 +10,7 @@ from aide_compare.base.database import SET_ID
 from aide_compare.base.paths import SLASH
 from aide_compare.changes.severity import Held, has_same_rights, held_by
 from aide_compare.lines.change import Fields
-from aide_compare.lines.rights import ROOT, Side, owner_of, rights_of
+from aide_compare.lines.rights import ROOT, Rights, Side, owner_of, rights_of
 
 MAX_NUMBER = (1 << 63) - 1
 UNKNOWN = -1
@@ -55,11 +55,9 @@ def party_of(owner: int | None) -> int:
     return min(owner, MAX_NUMBER)
 
 
-def may_be_content(old: Side, new: Side) -> bool:
+def may_be_content(old: Side, new: Rights) -> bool:
     """Whether records could say something of an entry with these rights: a new one is root's alone,
     and gives nobody a right; all others have the rights that they had."""
-    if new is None:
-        return False
     if old is None:
         return new.is_plain and (new.is_directory or not new.most & SET_ID)
     return has_same_rights(old, new)
