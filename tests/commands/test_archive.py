@@ -1,4 +1,4 @@
-"""The database of a signed archive: what it agrees with, what it never does, and what is refused."""
+"""The database of a signed archive: what it agrees with, what it never does, what is refused."""
 from __future__ import annotations
 
 import base64
@@ -9,25 +9,9 @@ from typing import Any
 
 from tests.commands.made_up import Package, write_records
 from tests.commands.sandbox import NOBODY
-from tests.commands.signed_archive import (
-    APTS_LISTS,
-    ARCHIVE,
-    CONFIGURATION,
-    INDEXES,
-    INFO,
-    KEPT,
-    LIBRARY,
-    ODD,
-    ONE,
-    SITE,
-    SUITE,
-    TOOL,
-    TWO,
-    ArchiveCase,
-    Built,
-    keep_as_apt,
-    keep_indexes,
-)
+from tests.commands.signed_archive import APTS_LISTS, ARCHIVE, CONFIGURATION, INDEXES, INFO, KEPT
+from tests.commands.signed_archive import LIBRARY, ODD, ONE, SITE, SUITE, TOOL, TWO, ArchiveCase
+from tests.commands.signed_archive import Built, keep_as_apt, keep_indexes
 from tests.lib.answer import Answer
 from tests.oracle.database import database_of, first_fault
 

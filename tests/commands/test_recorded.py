@@ -9,15 +9,8 @@ import sys
 from typing import Any
 
 from tests.commands import mail
-from tests.commands.made_up import (
-    DIRECTORY_BITS,
-    MORE_ACL,
-    Host,
-    Package,
-    acl_of,
-    base64_of,
-    standings_of,
-)
+from tests.commands.made_up import DIRECTORY_BITS, MORE_ACL, Host, Package, acl_of, base64_of
+from tests.commands.made_up import standings_of
 from tests.commands.sandbox import END, CommandTest
 from tests.commands.test_sorting import MEASURE
 from tests.lib.program_test import slow

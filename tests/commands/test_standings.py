@@ -42,18 +42,10 @@ Silent: 1 same
 
 """
 COUNTS = {
-    "same": "1",
-    "trusted": "0",
-    "recorded": "1",
-    "open": "4",
-    "open_high": "1",
-    "open_medium": "3",
-    "open_low": "0",
-    "recorded_high": "0",
-    "recorded_medium": "1",
-    "recorded_low": "0",
-    "left_out": "0",
-    "told_status": "7",
+    **{"same": "1", "trusted": "0", "recorded": "1", "open": "4"},
+    **{"open_high": "1", "open_medium": "3", "open_low": "0"},
+    **{"recorded_high": "0", "recorded_medium": "1", "recorded_low": "0"},
+    **{"left_out": "0", "told_status": "7"},
 }
 
 
@@ -187,11 +179,8 @@ class StandingsTest(mail.MailTest):
 
     def test_alarms(self) -> None:
         """What is silent raises no alarm. What a package's records have does."""
-        for host, status, mails in (
-            (silent(), 0, False),
-            (recorded(), 1, True),
-            (sample(), 2, True),
-        ):
+        hosts = ((silent(), 0, False), (recorded(), 1, True), (sample(), 2, True))
+        for host, status, mails in hosts:
             self.assertEqual(check(self, host).status, status)
             self.assertEqual(is_mailed(self, host), mails, status)
         answer = check(self, recorded(), "--critical", "1")
@@ -238,15 +227,10 @@ class StandingsTest(mail.MailTest):
 
     def test_hostile(self) -> None:
         """Names of others are escaped in the text, and cannot make a line of it."""
-        for name in (
-            b"/a\nOpen, severity high:",
-            b"/a\033[31m",
-            b"/a\xe2\x80\xae",
-            b"/a\xff",
-            b"/a\\",
-        ):
+        names = (b"\nOpen, severity high:", b"\033[31m", b"\xe2\x80\xae", b"\xff", b"\\")
+        for name in names:
             host = Host()
-            host.new.file(name, ONE)
+            host.new.file(b"/a" + name, ONE)
             text = host.brief(self)
             self.assertEqual(len(text.split("\n")), 6, text)
             self.assertTrue(text.isascii() and text.replace("\n", "").isprintable(), text)

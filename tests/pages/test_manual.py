@@ -20,12 +20,8 @@ from tests.oracle import configuration
 from tests.oracle.attributes import ATTRIBUTES, EMPTY_NAMES, GROUPS
 from tests.oracle.configuration import LEVELS, OLDER_OPTIONS, WITHOUT_EFFECT
 from tests.oracle.database import BYTE_LIMIT, COLUMN_LIMIT, LINE_LIMIT
-from tests.oracle.session import (
-    CONFIGURATION_LIMIT,
-    CONFIGURATION_WORDS,
-    DATABASE_WORDS,
-    LIST_WORDS,
-)
+from tests.oracle.session import CONFIGURATION_LIMIT, CONFIGURATION_WORDS, DATABASE_WORDS
+from tests.oracle.session import LIST_WORDS
 from tests.pages.blocks import MANUALS
 
 PAGE, CONF_PAGE = read("man/aide-compare-program.8"), read("man/aide-compare.conf.5")

@@ -12,16 +12,7 @@ import unittest
 from tests.lib.answer import Answer
 from tests.lib.scratch import read
 from tests.pages.machine import HEAD, NOBODY, example
-from tests.pages.recipes import (
-    BEFORE,
-    INTRUDER,
-    METRICS,
-    NEW,
-    OLD,
-    RecipesTest,
-    of_sizes,
-    recipes,
-)
+from tests.pages.recipes import BEFORE, INTRUDER, METRICS, NEW, OLD, RecipesTest, of_sizes, recipes
 
 
 class HandsTest(RecipesTest):

@@ -8,18 +8,8 @@ import random
 from tests.oracle.attributes import ATTRIBUTES
 
 from .configurations import random_words
-from .databases import (
-    BREAKS,
-    Columns,
-    Rows,
-    broken,
-    edited,
-    lines_of_database,
-    random_columns,
-    random_entries,
-    random_row,
-    random_value,
-)
+from .databases import BREAKS, Columns, Rows, broken, edited, lines_of_database, random_columns
+from .databases import random_entries, random_row, random_value
 
 FORMS = {attribute.column.encode(): attribute.form for attribute in ATTRIBUTES}
 DIGESTS = [column for column, form in FORMS.items() if isinstance(form, tuple)]
