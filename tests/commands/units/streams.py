@@ -31,12 +31,14 @@ def stream_of(*changes: Fields) -> int:
     """The descriptor of a whole stream of changes, which come in any order here."""
     ordered = sorted(changes, key=lambda each: key_of_path(each["path"].encode()))
     kinds = [each["kind"] for each in changes]
-    same = sum(each.get("same_as") == "old" for each in changes)
+    proofs = [each.get("same_as") for each in changes]
+    accounts = {"same_as_old": proofs.count("old"), "same_as_trusted": proofs.count("trusted")}
+    accounts["left_out"] = sum("left_out" in each for each in changes)
     counts = {kind: kinds.count(kind) for kind in ("added", "removed", "changed")}
     status = sum(bit for bit, count in zip((1, 2, 4), counts.values()) if count)
     side = {"sha256": "00" * 32, "skipped": []}
-    end: Fields = {"end": True, "status": status, "total": len(changes), **counts}
-    end = {**end, "same_as_old": same, "same_as_trusted": 0, "left_out": 0}
-    end = {**end, "others": len(changes) - same, **dict.fromkeys((*SIDES, *TRUSTED_SIDES), side)}
+    end: Fields = {"end": True, "status": status, "total": len(changes), **counts, **accounts}
+    end["others"] = len(changes) - sum(accounts.values())
+    end.update(dict.fromkeys((*SIDES, *TRUSTED_SIDES), side))
     first = {"format": 4, "old": "o", "new": "n", **dict.fromkeys(TRUSTED_SIDES, "")}
     return in_memory(b"".join(map(line_of, [first, *ordered, end])))

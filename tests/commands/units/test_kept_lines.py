@@ -1,30 +1,32 @@
-"""What the store keeps of the changes of a host, read again, and what is no such file."""
+"""The lines of aide_lines and what the store keeps of them, read again; and what is neither."""
 from __future__ import annotations
 
 import io
+import json
 import os
 from typing import Any
 from unittest import mock
 
 from tests.commands.units.calls import ModuleTest
 from tests.commands.units.streams import fields_of, line_of, stream_of
+from tests.oracle.database import LINE_LIMIT
 
 from aide_compare.base.files import in_memory
+from aide_compare.base.paths import key_of_path
 from aide_compare.changes.judged import Judged
 from aide_compare.hosts import kept_lines
 from aide_compare.hosts.kept_lines import KeptLines, write_kept
-from aide_compare.lines.change import Fields
 from aide_compare.lines import reader
-from aide_compare.lines.reader import Refused, reader_over
+from aide_compare.lines.change import Counts, Fields
+from aide_compare.lines.reader import Reader, Refused, reader_over
 
 ROOM = 1 << 20
 SOUND = [fields_of("/srv/a"), fields_of("/srv/b", "removed")]
-END: Fields = {
-    **{"end": True, "listed": 2, "same": 3, "trusted": 0, "recorded": 0, "open": 4},
-    **{"open_high": 1, "open_medium": 0, "open_low": 3},
-    **{"recorded_high": 0, "recorded_medium": 0, "recorded_low": 0},
-    **{"left_out": 2, "told_status": 3},
-}
+TOLD = Counts(same=3, open=4, open_high=1, open_low=3, left_out=2, told_status=3)
+END: Fields = {"end": True, "listed": 2, **TOLD._asdict()}
+# More lines than are looked at before one expression tells those of a form.
+MANY = [fields_of(f"/srv/{number}") for number in range(10, 30)]
+MANY += [fields_of(f"/srv/{number}", "changed", same_as="old") for number in range(30, 50)]
 
 
 def read_back(*lines: Fields) -> list[str]:
@@ -66,6 +68,53 @@ class KeptLinesTest(ModuleTest):
         self.assertEqual((lines, kept.to_read), (wanted, 2))
         self.assertEqual(read_back({"format": 3}, *SOUND, END), ["/srv/a", "/srv/b"])
 
+    def test_judged(self) -> None:
+        """Each line has its standing, wherever the silent ones are among all."""
+        rows: list[tuple[str, str, Fields]] = [
+            ("/a", "same", {"same_as": "old"}),
+            ("/b", "open", {}),
+            ("/c", "left out", {"left_out": 2}),
+            ("/d", "left out", {"left_out": 3}),
+            ("/etc/aide.conf", "open", {"same_as": "trusted"}),
+            ("/srv", "trusted", {"same_as": "trusted"}),
+            ("/tmp", "open", {}),
+            ("/usr", "left out", {"left_out": 3}),
+        ]
+        judged = Judged(
+            reader_over(stream_of(*(fields_of(path, **more) for path, _, more in rows)))
+        )
+        found = [(json.loads(line)["path"], marks.standing) for line, marks in judged.lines()]
+        self.assertEqual(found, [row[:2] for row in rows])
+        self.assertEqual(judged.left_out, {2: 1, 3: 2})
+        counts = judged.counts
+        self.assertEqual((counts.same, counts.trusted, counts.left_out, counts.open), (1, 1, 3, 3))
+
+    def test_proved(self) -> None:
+        """Most lines of aide_lines have the form of the one before. Each has its own path, and the
+        end all counts."""
+        first, *lines, end = os.pread(stream_of(*MANY), ROOM, 0).splitlines(keepends=True)
+        stream = Reader(io.BytesIO(b"".join((first, *lines, end))))
+        self.assertEqual(set(stream.counts), {0}, "it was not read yet")
+        found = [(path, key) for _, path, key, _ in stream.outlines()]
+        paths = [each["path"].encode() for each in MANY]
+        self.assertEqual(found, [(path, key_of_path(path)) for path in paths])
+        self.assertEqual(stream.counts, (40, 20, 0, 20, 20, 0, 0, 20))
+        rows = [
+            ("line 41: the entry is not in the order", [first, *lines[:39], lines[38], end]),
+            ("line 41: this ends too early", [first, *lines]),
+            ("line 43: this is after the end", [first, *lines, end, b"\n"]),
+        ]
+        ends: list[Fields] = [{"end": 1}, {"status": 3}, {"total": -1}, {"total": True}]
+        ends += [{"others": 19}, {"added": 19, "removed": 1, "status": 7}, {"new": {"sha256": ""}}]
+        ends += [{"same_as_old": 19, "others": 21}, {"same_as_old": 21, "others": 19}]
+        ends += [{"same_as_trusted": 1, "others": 19}, {"left_out": 1, "others": 19}]
+        for more in ends:
+            other = line_of({**json.loads(end), **more})
+            rows.append(("line 42: the end does not fit", [first, *lines, other]))
+        for words, some in rows:
+            with self.subTest(words, end=some[-1]), self.assertRaisesRegex(Refused, words):
+                list(Reader(io.BytesIO(b"".join(some))).outlines())
+
     def test_refused(self) -> None:
         """What another hand, or a full disk, has made of the file is not read as fewer changes."""
         first = {"format": 3}
@@ -89,8 +138,16 @@ class KeptLinesTest(ModuleTest):
             with self.subTest(words, lines=lines), self.assertRaisesRegex(Refused, words):
                 read_back(*lines)
         whole = b"".join(map(line_of, (first, *SOUND, END)))
-        for data in (b"", whole[:-1], whole[: len(whole) // 2], whole.replace(b"{", b"[", 1)):
+        many = {**END, "listed": 20, "open": 20, "open_low": 19}
+        alike = b"".join(map(line_of, (first, *MANY[:20], many)))
+        self.assertEqual(len(read_bytes(alike)), 20)
+        # No number of JSON, and no text, in a line whose form is known.
+        odd = [new.join(alike.rsplit(old, 1)) for old, new in ((b"17", b"017"), (b"/29", b"/\xff"))]
+        cut = whole[: len(whole) // 2]
+        for data in (b"", whole[:-1], cut, whole.replace(b"{", b"[", 1), *odd):
             with self.subTest(data=data), self.assertRaises(Refused):
                 read_bytes(data)
+        room = reader.LINE_LIMIT // LINE_LIMIT
+        self.assertIn(room, range(17, 33), "two lines of databases, as text and in base 16")
         with mock.patch.object(reader, "LINE_LIMIT", 100), self.assertRaises(Refused):
             read_bytes(whole)

@@ -9,6 +9,7 @@ from tests.commands.units.streams import fields_of, line_of
 
 from aide_compare.base.files import blocks_of, in_memory
 from aide_compare.compare import outputs
+from aide_compare.lines.change import Fields
 from aide_compare.show.page import Rows, values_in
 
 
@@ -22,13 +23,8 @@ def put(path: str, text: bytes, mode: int = 0o600) -> None:
 
 class OutputsTest(PlacesTest):
     def test_streams(self) -> None:
-        for path, want in (
-            ("-", 1),
-            ("/dev/stdout", 1),
-            ("/dev/stderr", 2),
-            ("/dev/fd/7", 7),
-            ("x", None),
-        ):
+        names = {"-": 1, "/dev/stdout": 1, "/dev/stderr": 2, "/dev/fd/7": 7, "x": None}
+        for path, want in names.items():
             self.gives(want, outputs.descriptor_of, path)
         reading, writing = os.pipe()
         for descriptor in (reading, writing):
@@ -55,7 +51,7 @@ class OutputsTest(PlacesTest):
         """The values of a frequent form are those of the line itself, however odd one is."""
         rows = Rows()
         usual = fields_of("/a", "changed", old={"Size": 0, "SHA256": "00"}, new={"MD5": "+/="})
-        odd: list[dict[str, object]] = [
+        odd: list[Fields] = [
             {"MD5": text} for text in ("<b>", "\\", "\u202e", "%b", "", "x" * 200000)
         ]
         odd += [{"Size": number} for number in (1 << 53, 10**14, -1, "7")]

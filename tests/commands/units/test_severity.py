@@ -16,14 +16,8 @@ from aide_compare.changes import severity
 from aide_compare.changes.severity import RANKS, Severity, held_by
 from aide_compare.lines.rights import Rights, Side, owner_of
 
-TYPES = {
-    0o10: "File",
-    0o4: "Directory",
-    0o12: "Link",
-    0o2: "Character device",
-    0o6: "Block device",
-    0o1: "FIFO",
-}
+TYPES = {0o10: "File", 0o4: "Directory", 0o12: "Link", 0o1: "FIFO"}
+TYPES.update({0o2: "Character device", 0o6: "Block device"})
 ANNA = 1000
 SETUID = base64.b64encode(b"cap_setuid=ep")
 # The same as an extended attribute, among others.
@@ -56,9 +50,9 @@ def entry(
 
 CAPABLE = entry(PROGRAM, capabilities=SETUID)
 LISTS_ANNA = entry(FILE, acl=acl_field(TO_ANNA))
+LISTS_NEW = entry(DIRECTORY, acl=acl_field(b"", TO_ANNA))
 LISTS_READER = entry(FILE, acl=acl_field(ANNA_READS))
 LISTS_MASKED = entry(FILE, acl=acl_field(MASKED))
-LISTS_NEW_FILES = entry(DIRECTORY, acl=acl_field(b"", TO_ANNA))
 OF_ANNA = entry(FILE, uid=ANNA)
 UNKNOWN = entry(FILE)._replace(permissions=None)
 OWNERLESS = entry(DIRECTORY, uid=None)
@@ -89,7 +83,7 @@ RIGHTS: list[tuple[str, Side, Side, str]] = [
     ("a wider mask", LISTS_MASKED, LISTS_ANNA, "high"),
     ("a list that says the mode", entry(FILE), entry(FILE, acl=acl_field(OF_MODE)), "medium"),
     ("a list of an unknown form", entry(FILE), entry(FILE, acl=b"odd"), "high"),
-    ("a list for new files", entry(DIRECTORY), LISTS_NEW_FILES, "high"),
+    ("a list for new files", entry(DIRECTORY), LISTS_NEW, "high"),
     ("a file that all can write", entry(FILE), entry(0o100666), "high"),
     ("a file that came so", None, entry(0o100666), "high"),
     ("a file that was so", entry(0o100666), entry(0o100666), "medium"),
@@ -290,6 +284,10 @@ class SeverityTest(ModuleTest):
             rank_of(b"/var/log/x", None, entry(FILE)),
         ]
         self.expect("the order of severities", ranks, sorted(set(ranks)))
+        for size, wanted in ((4096, "high"), (4097, "medium")):
+            path = b"/etc/cron.d/".ljust(size, b"x")
+            level = level_of(path, None, entry(FILE))
+            self.expect(f"the level of a path of {size} bytes", level, wanted)
 
     def test_tables(self) -> None:
         """Another table, those that are no tables, and a shipped one that is missing."""
@@ -302,7 +300,15 @@ class SeverityTest(ModuleTest):
         first = Severity(self.write("table", rows))
         levels = [level_of(path, None, link, first) for path in (b"/a/b", b"/a/c", b"/a/d")]
         self.assertEqual(levels, ["low", "low", "high"], "the first line, whatever its pattern")
-        for line in (b"urgent any /*", b"low /opt/*", b"low odd /opt/*", b"low any opt", b"low"):
+        odd = (
+            b"urgent any /*",
+            b"low /opt/*",
+            b"low odd /opt/*",
+            b"low any opt",
+            b"low any",
+            b"low",
+        )
+        for line in odd:
             self.fails(15, "table, line 1: ", Severity, self.write("table", line + b"\n"))
         with mock.patch.object(severity, "SHIPPED", ("nowhere",)):
             self.fails(18, "severity.conf is missing", Severity)

@@ -2,12 +2,16 @@
 from __future__ import annotations
 
 from typing import Any
+from unittest import mock
 
 from tests.commands.units.calls import ModuleTest
 from tests.commands.units.streams import line_of
 
+from aide_compare.base.paths import key_of_path
 from aide_compare.changes.severity import Severity
-from aide_compare.changes.weighing import Known, is_content, known_of
+from aide_compare.changes.weighing import Known, directory_of, group_of_owner, is_content
+from aide_compare.changes.weighing import known_of, party_of
+from aide_compare.lines import reader
 from aide_compare.lines.attributes import FORMS
 from aide_compare.lines.change import change_of
 from aide_compare.lines.reader import MAX_LINE, Forms
@@ -20,6 +24,8 @@ OLD: dict[str, Any] = {
     **{"XAttrs_hex": "ff", "SELinux": "c2U=", "Caps": "Y2Fw"},
 }
 NEW = {**OLD, "SHA256": "11"}
+PLAIN: dict[str, Any] = {"Type": "File", "Perm": "0644", "UID": 0, "GID": 0}
+FOLDER = {**PLAIN, "Type": "Directory", "Perm": "2755"}
 
 
 def fields_of(letters: str = SAME, **sides: dict[str, Any]) -> dict[str, Any]:
@@ -65,13 +71,17 @@ class WeighingTest(ModuleTest):
             again = weighed(forms, fields_of(letters, old=side, new=set_id))
             self.assertEqual(again, came, "known, or too long to be kept")
         self.assertEqual((came[0].party, came[0].asked), (0, ""))
+        self.assertEqual(len(forms.known), 2)
+        with mock.patch.object(reader, "MAX_FORMS", 3):
+            for number in (1, 2, 3):
+                forms.of(line_of({**fields_of(new=NEW), "left_out": number}))
+        self.assertEqual(len(forms.known), 3, "no more are kept than may be")
 
     def test_remembered(self) -> None:
         """An access list in base 16 counts, although such rights without it came before."""
         forms = Forms()
-        plain = {"Type": "File", "Perm": "0644", "UID": 0, "GID": 0}
-        before = weighed(forms, fields_of(old=plain, new=plain))
-        listed = weighed(forms, fields_of(old=plain, new={**plain, "ACL_hex": "ff"}))
+        before = weighed(forms, fields_of(old=PLAIN, new=PLAIN))
+        listed = weighed(forms, fields_of(old=PLAIN, new={**PLAIN, "ACL_hex": "ff"}))
         self.assertLess(listed[1], before[1])
 
     def test_forms(self) -> None:
@@ -94,7 +104,7 @@ class WeighingTest(ModuleTest):
         self.assertIsNot(forms.of(line_of({**fields_of(new=NEW), "left_out": 2})), first)
 
     def test_types(self) -> None:
-        """Two types that have one word are no same one, whatever lines with this word came before."""
+        """Two types with one word are not the same, whatever lines with this word came before."""
         socket = {**OLD, "Type": "Other"}
         pair = [fields_of(letters, old=socket, new=socket) for letters in (SAME, "!" + SAME[1:])]
         for first, then in (pair, pair[::-1]):
@@ -105,16 +115,11 @@ class WeighingTest(ModuleTest):
         """A right whose letter says no difference is no value of the change; all others stay."""
         change = change_of(fields_of(old=OLD, new=NEW))
         self.assertEqual((change.old, change.new), ({"SHA256": "00"}, {"SHA256": "11"}))
-        for letters, label in (
-            (SAME[:4] + "p" + SAME[5:], "Perm"),
-            (SAME[:5] + "u" + SAME[6:], "UID"),
-            (SAME[:6] + "g" + SAME[7:], "GID"),
-            (SAME[:13] + "A" + SAME[14:], "ACL"),
-            (SAME[:14] + "X" + SAME[15:], "XAttrs"),
-            (SAME[:15] + "S" + SAME[16:], "SELinux"),
-            (SAME[:17] + "C", "Caps"),
-            ("!" + SAME[1:], "Type"),
+        for place, letter, label in (
+            *((0, "!", "Type"), (4, "p", "Perm"), (5, "u", "UID"), (6, "g", "GID")),
+            *((13, "A", "ACL"), (14, "X", "XAttrs"), (15, "S", "SELinux"), (17, "C", "Caps")),
         ):
+            letters = SAME[:place] + letter + SAME[place + 1 :]
             change = change_of(fields_of(letters, old=OLD, new=NEW))
             self.assertEqual(change.new.keys(), {"SHA256", label})
             self.assertEqual(change.old.keys(), {"SHA256", label})
@@ -129,29 +134,46 @@ class WeighingTest(ModuleTest):
         for odd in ({**fields_of(old=OLD, new=NEW), "summary": "f"}, {"kind": "changed"}):
             self.assertEqual(differing(odd), odd)
 
+    def test_places(self) -> None:
+        """Whose an entry is, as far as its number says it, and in which directory it is."""
+        most = (1 << 63) - 1
+        for owner, *known in ((0, 0, 0), (999, 1, 999), (1000, 2, 1000), (most + 1, 2, most)):
+            self.expect(f"user {owner}", [group_of_owner(owner), party_of(owner)], known)
+        self.expect("no user", (group_of_owner(None), party_of(None)), (0, -1))
+        for path, above in ((b"/", b""), (b"/a", b"/"), (b"/a/b/c", b"/a/b")):
+            self.gives(key_of_path(above), directory_of, key_of_path(path))
+
     def test_content(self) -> None:
         """Nothing but a content, or the target of a link, by the letters of what differs."""
-        for label, letters, is_link, is_it in (
-            ("a content", "f.>b....mci.H.....", False, True),
-            ("a content of a file without flags", "f>>b....mci.H    .", False, False),
-            ("where a link points", "ll>b....mci..     ", True, True),
-            ("the digest of a link", "l..........  H    ", True, False),
-            ("a link that is a file now", "!.>b....mci.H.....", False, False),
-            ("links", "f.>.....mci nH....", False, False),
-            ("an access list", "f.>.....mci.HA....", False, False),
-            ("flags", "f.>.....mci.H...E.", False, False),
-            ("flags that are passed over", "f.>.....mci.H...:.", False, False),
+        forms = Forms()
+        for label, letters, word, asked in (
+            ("a content", "f.>b....mci.H.....", "File", "content"),
+            ("a content of a file without flags", "f>>b....mci.H    .", "File", ""),
+            ("where a link points", "ll>b....mci..     ", "Link", "target"),
+            ("the digest of a link", "l..........  H    ", "Link", ""),
+            ("a link that is a file now", "!.>b....mci.H.....", "File", ""),
+            ("links", "f.>.....mci nH....", "File", ""),
+            ("an access list", "f.>.....mci.HA....", "File", ""),
+            ("flags", "f.>.....mci.H...E.", "File", ""),
+            ("flags that are passed over", "f.>.....mci.H...:.", "File", ""),
         ):
-            self.expect(label, is_content(fields_of(letters, old=OLD, new=NEW), is_link), is_it)
+            old, new = ({**side, "Type": word} for side in (OLD, NEW))
+            changed = fields_of(letters, old=old, new=new)
+            self.expect(label, is_content(changed, word == "Link"), bool(asked))
+            self.expect(f"asked: {label}", weighed(forms, changed)[0].asked, asked)
         more = fields_of(old=OLD, new={**NEW, "MD5": "00"})
         self.expect("a digest on one side alone", is_content(more, False), False)
         self.expect("an entry that came", is_content(fields_of("f", new=NEW), False), True)
         unknown = {name: value for name, value in NEW.items() if name != "Perm"}
-        forms = Forms()
         old = {**unknown, "SHA256": "00"}
         for label, fields, is_it in (
             ("the same rights", fields_of(old=OLD, new=NEW), True),
             ("a mode that is not known", fields_of(old=old, new=unknown), False),
             ("another owner", fields_of(old=OLD, new={**NEW, "UID": 1}), False),
+            ("a new file", fields_of(new=PLAIN), True),
+            ("a new set-ID file", fields_of(new={**PLAIN, "Perm": "2755"}), False),
+            ("a new directory with such a bit", fields_of(new=FOLDER), True),
+            ("another user's new directory", fields_of(new={**FOLDER, "UID": 1}), False),
+            ("a file that went", fields_of(old=PLAIN), False),
         ):
             self.expect(label, weighed(forms, fields)[0].asked == "content", is_it)
