@@ -23,12 +23,8 @@ ATTR = 1 << 1 | 1 << 2 | 1 << 3 | 1 << 4 | 1 << 5 | 1 << 8 | 1 << 9 | 1 << 12 | 
 # Root's changes: high ones of each kind, and a medium one; and what a service has that is taken
 # over.
 ROOTS = [
-    b"/etc/cron.d/evil",
-    b"/etc/passwd",
-    b"/root/.ssh/authorized_keys",
-    b"/usr/bin/sudo",
-    b"/usr/local/sbin/.x",
-    b"/usr/sbin/sshd",
+    *(b"/etc/cron.d/evil", b"/etc/passwd", b"/root/.ssh/authorized_keys", b"/usr/bin/sudo"),
+    *(b"/usr/local/sbin/.x", b"/usr/sbin/sshd"),
 ]
 ADDED, REMOVED = ROOTS[0:5:4], ROOTS[3]
 SHELL = b"/var/www/html/shell.php"

@@ -26,18 +26,8 @@ from .test_fleet import Fleet
 SPEC = b"@@begin_db\n@@db_spec name perm uid gid size mtime inode lcount attr sha256\n"
 HOSTILE = (
     b"/a%0Aadded%20on%209%20of%209%20hosts:%20File%20/b",
-    b"/a%1B[31m",
-    b"/a%E2%80%AEb",
-    b"/a%FFb",
-    b"/a%09b",
-    b"/a%00b",
-    b"/a%2541",
-    b"/a%20%20",
-    b"/a%20b",
-    b"/a/b",
-    b"/a%01b",
-    b"/a-b",
-    b"/" + b"n" * 6000,
+    *(b"/a%1B[31m", b"/a%E2%80%AEb", b"/a%FFb", b"/a%09b", b"/a%00b", b"/a%2541", b"/a%20%20"),
+    *(b"/a%20b", b"/a/b", b"/a%01b", b"/a-b", b"/" + b"n" * 6000),
 )
 
 

@@ -48,12 +48,8 @@ def upgrade_night(packages: int) -> Host:
 
 
 SWALLOWED = (
-    INFO + b"apt.postinst",
-    INFO + b"apt.prerm",
-    b"/etc/ld.so.cache",
-    b"/etc/rc2.d/S01zz",
-    b"/var/lib/dpkg/statoverride",
-    b"/var/lib/dpkg/triggers/File",
+    *(INFO + b"apt.postinst", INFO + b"apt.prerm", b"/etc/ld.so.cache", b"/etc/rc2.d/S01zz"),
+    *(b"/var/lib/dpkg/statoverride", b"/var/lib/dpkg/triggers/File"),
 )
 
 

@@ -92,14 +92,8 @@ class TextsTest(ModuleTest):
         self.gives("@%d" % (1 << 62), words.date_of, 1 << 62)
         self.gives("2026-11-25 10:32 UTC", words.minute_of, 1795602777)
         self.gives("@%d" % (1 << 62), words.minute_of, 1 << 62)
-        for seconds, age in (
-            (119, "119 seconds"),
-            (120, "2 minutes"),
-            (7199, "119 minutes"),
-            (7200, "2 hours"),
-            (259199, "71 hours"),
-            (259200, "3 days"),
-        ):
+        ages = {119: "119 seconds", 120: "2 minutes", 7199: "119 minutes", 7200: "2 hours"}
+        for seconds, age in {**ages, 259199: "71 hours", 259200: "3 days"}.items():
             self.gives(age, words.age_in_words, seconds)
 
     def test_words(self) -> None:
