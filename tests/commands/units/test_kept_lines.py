@@ -27,6 +27,7 @@ END: Fields = {"end": True, "listed": 2, **TOLD._asdict()}
 # More lines than are looked at before one expression tells those of a form.
 MANY = [fields_of(f"/srv/{number}") for number in range(10, 30)]
 MANY += [fields_of(f"/srv/{number}", "changed", same_as="old") for number in range(30, 50)]
+MANY += [fields_of(f"/srv/{name}") for name in ("\\", "\\n", "x\ty", 'x"', "\x7f", "\xe9")]
 
 
 def read_back(*lines: Fields) -> list[str]:
@@ -71,18 +72,17 @@ class KeptLinesTest(ModuleTest):
     def test_judged(self) -> None:
         """Each line has its standing, wherever the silent ones are among all."""
         rows: list[tuple[str, str, Fields]] = [
-            ("/a", "same", {"same_as": "old"}),
-            ("/b", "open", {}),
-            ("/c", "left out", {"left_out": 2}),
-            ("/d", "left out", {"left_out": 3}),
+            ("/etc/aide/a", "same", {"same_as": "old"}),
+            ("/etc/aide/b", "open", {}),
+            ("/etc/aide/c", "left out", {"left_out": 2}),
+            ("/etc/aide/d", "left out", {"left_out": 3}),
             ("/etc/aide.conf", "open", {"same_as": "trusted"}),
-            ("/srv", "trusted", {"same_as": "trusted"}),
+            ("/etc/aide.conf2", "trusted", {"same_as": "trusted"}),
             ("/tmp", "open", {}),
             ("/usr", "left out", {"left_out": 3}),
         ]
-        judged = Judged(
-            reader_over(stream_of(*(fields_of(path, **more) for path, _, more in rows)))
-        )
+        changes = [fields_of(path, **more) for path, _, more in rows]
+        judged = Judged(reader_over(stream_of(*changes)))
         found = [(json.loads(line)["path"], marks.standing) for line, marks in judged.lines()]
         self.assertEqual(found, [row[:2] for row in rows])
         self.assertEqual(judged.left_out, {2: 1, 3: 2})
@@ -98,19 +98,20 @@ class KeptLinesTest(ModuleTest):
         found = [(path, key) for _, path, key, _ in stream.outlines()]
         paths = [each["path"].encode() for each in MANY]
         self.assertEqual(found, [(path, key_of_path(path)) for path in paths])
-        self.assertEqual(stream.counts, (40, 20, 0, 20, 20, 0, 0, 20))
+        self.assertEqual(stream.counts, (46, 26, 0, 20, 20, 0, 0, 26))
         rows = [
-            ("line 41: the entry is not in the order", [first, *lines[:39], lines[38], end]),
-            ("line 41: this ends too early", [first, *lines]),
-            ("line 43: this is after the end", [first, *lines, end, b"\n"]),
+            ("line 47: the entry is not in the order", [first, *lines[:45], lines[44], end]),
+            ("line 47: this ends too early", [first, *lines]),
+            ("line 49: this is after the end", [first, *lines, end, b"\n"]),
         ]
         ends: list[Fields] = [{"end": 1}, {"status": 3}, {"total": -1}, {"total": True}]
-        ends += [{"others": 19}, {"added": 19, "removed": 1, "status": 7}, {"new": {"sha256": ""}}]
-        ends += [{"same_as_old": 19, "others": 21}, {"same_as_old": 21, "others": 19}]
-        ends += [{"same_as_trusted": 1, "others": 19}, {"left_out": 1, "others": 19}]
+        ends += [{"others": 25}, {"added": 25, "removed": 1, "status": 7}, {"new": {"sha256": ""}}]
+        ends += [{"same_as_old": 19, "others": 27}, {"same_as_old": 21, "others": 25}]
+        ends += [{"same_as_trusted": 1, "others": 25}, {"left_out": 1, "others": 25}]
+        ends += [{"trusted_new": {"sha256": ""}}]
         for more in ends:
             other = line_of({**json.loads(end), **more})
-            rows.append(("line 42: the end does not fit", [first, *lines, other]))
+            rows.append(("line 48: the end does not fit", [first, *lines, other]))
         for words, some in rows:
             with self.subTest(words, end=some[-1]), self.assertRaisesRegex(Refused, words):
                 list(Reader(io.BytesIO(b"".join(some))).outlines())
@@ -127,6 +128,7 @@ class KeptLinesTest(ModuleTest):
             ("this is no change", [first, {**SOUND[0], "new": {"Size": []}}, SOUND[1], END]),
             ("not in the order", [first, *reversed(SOUND), END]),
             ("the end does not fit", [first, {**SOUND[0], "same_as": "old"}, SOUND[1], END]),
+            ("the end does not fit", [first, {**SOUND[0], "left_out": 1}, SOUND[1], END]),
             ("the end does not fit", [first, SOUND[0], END]),
             ("the end does not fit", [first, *SOUND, few]),
             ("the end does not fit", [first, *SOUND, {**END, "open": 5}]),

@@ -24,6 +24,7 @@ OLD: dict[str, Any] = {
     **{"XAttrs_hex": "ff", "SELinux": "c2U=", "Caps": "Y2Fw"},
 }
 NEW = {**OLD, "SHA256": "11"}
+GREATER = {**NEW, "MD5": "00"}
 PLAIN: dict[str, Any] = {"Type": "File", "Perm": "0644", "UID": 0, "GID": 0}
 FOLDER = {**PLAIN, "Type": "Directory", "Perm": "2755"}
 
@@ -100,8 +101,13 @@ class WeighingTest(ModuleTest):
             self.expect(
                 label, [first.match(line) is not None for line in (one, other)], [True, is_one]
             )
-        first = forms.of(line_of({**fields_of(new=NEW), "left_out": 1}))
-        self.assertIsNot(forms.of(line_of({**fields_of(new=NEW), "left_out": 2})), first)
+        members: list[dict[str, Any]] = [{}, {"kind": "changed"}, {"same_as": "old"}]
+        members += [{"left_out": 1}, {"left_out": 2}]
+        lines = [line_of({**fields_of(new=NEW), **more}) for more in members]
+        for line in lines:
+            known = forms.of(line)
+            known.learn()
+            self.assertEqual([other for other in lines if known.match(other)], [line])
 
     def test_types(self) -> None:
         """Two types with one word are not the same, whatever lines with this word came before."""
@@ -161,8 +167,8 @@ class WeighingTest(ModuleTest):
             changed = fields_of(letters, old=old, new=new)
             self.expect(label, is_content(changed, word == "Link"), bool(asked))
             self.expect(f"asked: {label}", weighed(forms, changed)[0].asked, asked)
-        more = fields_of(old=OLD, new={**NEW, "MD5": "00"})
-        self.expect("a digest on one side alone", is_content(more, False), False)
+        for more in (fields_of(old=OLD, new=GREATER), fields_of(old=GREATER, new=OLD)):
+            self.expect("a digest on one side alone", is_content(more, False), False)
         self.expect("an entry that came", is_content(fields_of("f", new=NEW), False), True)
         unknown = {name: value for name, value in NEW.items() if name != "Perm"}
         old = {**unknown, "SHA256": "00"}
