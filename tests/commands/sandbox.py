@@ -240,12 +240,7 @@ class CommandTest(ScratchTest):
         return os.listdir(self.room)
 
     def expect(
-        self,
-        label: str,
-        answer: Answer,
-        status: int,
-        output: Texts = None,
-        errors: Texts = None,
+        self, label: str, answer: Answer, status: int, output: Texts = None, errors: Texts = None
     ) -> None:
         """An answer has a status, these texts where they are given (a list: each is in it), and
         leaves nothing behind."""

@@ -204,10 +204,7 @@ class Parts(NamedTuple):
 
 
 def account_of(
-    change: Change,
-    trusted: list[Entries],
-    rules: list[patterns.Rule],
-    measures: list[bool],
+    change: Change, trusted: list[Entries], rules: list[patterns.Rule], measures: list[bool]
 ) -> Account:
     """What accounts for a change, by the entries of a trusted pair and by the rules of a list."""
     same = same_as(change.old, change.new, *(entries.get(change.path) for entries in trusted))

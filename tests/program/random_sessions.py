@@ -72,12 +72,7 @@ def try_session(check: Check, seed: int, number: int, top: bytes, make: Make) ->
 
 
 def try_sessions(
-    check: Check,
-    seed: int,
-    numbers: range,
-    jobs: int,
-    tally: AnswerTest,
-    make: Make = make_session,
+    check: Check, seed: int, numbers: range, jobs: int, tally: AnswerTest, make: Make = make_session
 ) -> None:
     """Tries so many sessions, which `make` writes; the files of those that went wrong are kept."""
     top = tempfile.mkdtemp(prefix="sessions-").encode()

@@ -24,12 +24,7 @@ def limited(what: int, most: int) -> Callable[[], None]:
 
 
 def check_file_sizes(
-    test: ProgramTest,
-    label: str,
-    program: bytes,
-    words: list[bytes],
-    want: Answer,
-    step: int,
+    test: ProgramTest, label: str, program: bytes, words: list[bytes], want: Answer, step: int
 ) -> None:
     """An output that goes to a file which may not grow over so many bytes: the last write before is
     cut short."""
