@@ -60,12 +60,6 @@ class Marks(NamedTuple):
         return embedded(known).replace(b"{", b",", 1)
 
 
-@lru_cache(maxsize=1024)
-def marks_of(standing: str, level: int, package: str) -> Marks:
-    """The marks of a change that is not silent."""
-    return Marks(standing, SEVERITIES[level], package)
-
-
 class Row(NamedTuple):
     """What people read of a change that is not silent."""
 
@@ -89,7 +83,7 @@ class Row(NamedTuple):
 
     @property
     def marks(self) -> Marks:
-        return marks_of(self.standing, self.level, self.package)
+        return Marks(self.standing, self.severity, self.package)
 
 
 COLUMNS = ", ".join(Row._fields)
@@ -121,8 +115,8 @@ class Table(Rows):
     def marks(self) -> Iterator[tuple[int, Marks]]:
         """Yields where the lines of all begin, and their marks, in the order of paths; then 0."""
         question = "select line_at, standing, level, package from changes order by place"
-        for line_at, *marks in self.ask(question):
-            yield line_at, marks_of(*marks)
+        for line_at, standing, level, package in self.ask(question):
+            yield line_at, Marks(standing, SEVERITIES[level], package)
         yield 0, Marks("")
 
     def row(self, place: int) -> Row:

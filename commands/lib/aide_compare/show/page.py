@@ -40,7 +40,6 @@ if TYPE_CHECKING:
     from aide_compare.compare.comparison import Comparison
 
 HERE = os.path.dirname(os.path.abspath(__file__))
-DECODE = json.JSONDecoder().raw_decode
 POLICY = (
     "default-src 'none'; base-uri 'none'; form-action 'none'; style-src 'sha256-{style}';"
     " script-src 'sha256-{script}'"
@@ -195,7 +194,7 @@ class Rows:
     def add(self, line: bytes, marks: Marks) -> None:
         row = line.partition(AFTER_PATH)[0]
         if not PLAIN.fullmatch(row):
-            place = DECODE(row.decode() + "}")[0]
+            place = json.loads(row + b"}")
             path = shown(bytes_of(place, "path"))
             row = b'{"kind":%b,"path":%b' % (embedded(place["kind"]), embedded(path))
         row += b',"labels":%b' % self.forms.of(line).value(labels_in) + marks.members()
