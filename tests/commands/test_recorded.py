@@ -138,9 +138,9 @@ class RecordedTest(CommandTest):
             files = {LIB + b"tool.so.2": TWO, LIB + b"beside": TWO}
             host.packages.append(Package("tool", "2", files, listed=(LIB + b"tool.so",)))
             host.packages.append(Package("other", "1", {LIB + b"other": TWO}))
-            host.new.link(LIB + b"a", b"beside")
-            host.packages.append(Package("tool-a", "2", {LIB + b"a": TWO, LIB + b"beside": ONE}))
-            wanted = {LIB + b"tool.so": want, LIB + b"beside": RECORDED, LIB + b"a": OPEN}
+            host.new.link(LIB + b"z", b"beside")
+            host.packages.append(Package("tool-a", "2", {LIB + b"z": TWO, LIB + b"beside": ONE}))
+            wanted = {LIB + b"tool.so": want, LIB + b"beside": RECORDED, LIB + b"z": OPEN}
             self.check(f"a link to {target!r}", host, wanted)
 
     def test_named(self) -> None:

@@ -37,7 +37,7 @@ class PackagesTest(ModuleTest):
         self.write("dpkg/status", TOOL.status() + b"\n" + GONE.status())
 
     def members(self) -> dict[str, Members]:
-        return dict(Dpkg(self.path("dpkg")).members({b"/usr/bin/tool\n"}))
+        return dict(Dpkg(self.path("dpkg")).members({b"/usr/bin/tool\n": 1}))
 
     def test_others(self) -> None:
         """No record is read that others can write, and none but a regular file."""
