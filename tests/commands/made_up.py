@@ -126,8 +126,9 @@ class Package:
         return text.encode() + (b"Conffiles:\n" + lines if lines else b"")
 
     def paths(self) -> bytes:
-        paths = sorted([b"/.", *self.files, *self.conffiles, *self.listed])
-        return b"".join(path + b"\n" for path in paths)
+        paths = {*self.files, *self.conffiles, *self.listed}
+        above = {path[:end] for path in paths for end in range(2, len(path)) if path[end] == 47}
+        return b"".join(path + b"\n" for path in sorted({b"/.", *paths, *above}))
 
     def sums(self) -> bytes:
         text = b""

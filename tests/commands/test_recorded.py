@@ -61,8 +61,8 @@ def many_kinds() -> Host:
         if number % 3:
             files[path] = TWO
     host.new.link(LIB + b"tool.so", b"tool01").link(LIB + b"evil.so", b"/tmp/evil")
-    files[b"/lib/bare"] = TWO
-    host.new.file(LIB + b"bare", TWO)
+    files.update({b"/lib/bare/tool": TWO, b"/image": TWO})
+    host.new.file(LIB + b"bare/tool", TWO).file(b"/image", TWO)
     listed = (LIB + b"tool.so", LIB + b"evil.so")
     host.packages.append(Package("tool", "2", files, listed=listed))
     host.packages.append(Package("other", "1", {}, conffiles={LIB + b"tool00": TWO}))
@@ -258,15 +258,17 @@ class ManyTest(CommandTest):
         kinds = {" ".join(words.split()[::2]) for words in wanted.values()}
         self.assertIn("recorded tool", kinds, wanted)
         self.assertEqual(wanted[LIB + b"evil.so"].split()[0], "open")
-        for path in (b"tool.so", b"bare", b"tool00", b"tool01"):
-            self.assertTrue(wanted[LIB + path].startswith("recorded"), (path, wanted))
-        for size in (1, 200, 700):
-            self.set_names("changes.recorded", MAX_WANTED=size)
+        names = (b"tool.so", b"bare/tool", b"tool00", b"tool01")
+        for path in (b"/image", *map(LIB.__add__, names)):
+            self.assertTrue(wanted[path].startswith("recorded"), (path, wanted))
+        for size, many in ((1, 0), (200, 0), (700, 99)):
+            self.set_names("changes.recorded", MAX_WANTED=size, MANY=many)
             self.assertEqual(standings_of(host.ask(self)[1]), wanted, size)
             self.assertEqual(host.brief(self), brief, size)
         self.set_names("changes.recorded", MAX_WANTED=1, MAX_MEMBERS=2)
         found = standings_of(host.ask(self)[1], ("package",))
-        self.assertEqual([path for path in found if found[path]], [LIB + b"bare"], found)
+        first = [path for path in found if found[path]]
+        self.assertEqual(first, [b"/image", LIB + b"bare/tool"], found)
 
     def test_records_that_end(self) -> None:
         """If a change cannot be read after some were recorded, all are open."""

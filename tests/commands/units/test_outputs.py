@@ -51,9 +51,7 @@ class OutputsTest(PlacesTest):
         """The values of a frequent form are those of the line itself, however odd one is."""
         rows = Rows()
         usual = fields_of("/a", "changed", old={"Size": 0, "SHA256": "00"}, new={"MD5": "+/="})
-        odd: list[Fields] = [
-            {"MD5": text} for text in ("<b>", "\\", "\u202e", "%b", "", "x" * 200000)
-        ]
+        odd: list[Fields] = [{"MD5": text} for text in ("<b>", "\\", "\u202e", "%b", "", "x" * 200)]
         odd += [{"Size": number} for number in (1 << 53, 10**14, -1, "7")]
         odd += [{"Lname": text} for text in ("100000000000000", "%b", "x")]
         for old in (usual["new"], *odd):

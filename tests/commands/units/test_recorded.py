@@ -5,6 +5,7 @@ import hashlib
 
 from tests.commands.units.calls import ModuleTest
 
+from aide_compare.base.files import BLOCK
 from aide_compare.changes.recorded import Matcher, target_of
 from aide_compare.changes.table import Table
 from aide_compare.lines.change import Change, Value, Values
@@ -23,7 +24,7 @@ class RecordedTest(ModuleTest):
 
     def test_contents(self) -> None:
         """A content that only the file on this machine says is read, as long as there is room."""
-        text = b"x" * 10
+        text = b"x" * (BLOCK + 10)
         path = self.write("file", text).encode()
         kinds = ("MD5", "SHA1", "SHA256", "SHA3-512")
         digests = {name: hashlib.new(name, text).hexdigest() for name in kinds}
@@ -43,6 +44,6 @@ class RecordedTest(ModuleTest):
         for label, new, of, room, fits in rows:
             matcher = Matcher(Table(), lambda _: LINK)
             self.expect("the room", matcher.remaining, 2 << 30)
-            matcher.remaining = room
+            matcher.remaining = BLOCK + room
             self.expect(label, matcher.fits(FILE._replace(path=path, new=new), of), fits)
         self.gives(False, matcher.fits, FILE._replace(new=strong), own)
