@@ -300,15 +300,8 @@ class SeverityTest(ModuleTest):
         first = Severity(self.write("table", rows))
         levels = [level_of(path, None, link, first) for path in (b"/a/b", b"/a/c", b"/a/d")]
         self.assertEqual(levels, ["low", "low", "high"], "the first line, whatever its pattern")
-        odd = (
-            b"urgent any /*",
-            b"low /opt/*",
-            b"low odd /opt/*",
-            b"low any opt",
-            b"low any",
-            b"low",
-        )
-        for line in odd:
+        odd = b"urgent any /*,low /opt/*,low odd /opt/*,low any opt,low any,low"
+        for line in odd.split(b","):
             self.fails(15, "table, line 1: ", Severity, self.write("table", line + b"\n"))
         with mock.patch.object(severity, "SHIPPED", ("nowhere",)):
             self.fails(18, "severity.conf is missing", Severity)
