@@ -19,7 +19,7 @@ HELP = Help(
 Takes HOST out of the file of hosts, and removes its baseline, its databases, its changes and its
 state. A new HOST of this name begins with aide-compare hosts add.""",
     epilog="""\
-Its key stays in known_hosts: ssh-keygen -R HOST removes it.
+Its key stays: ssh-keygen -R HOST removes it from ~/.ssh/known_hosts.
 
 Status: 0 removed; 15 bad arguments; 18 there is no such host, or something could not be
 removed.""",
