@@ -75,7 +75,7 @@ def option(name: str, help: str, metavar: str = "", **more: Any) -> Any:
 QUIET = Option("--quiet", "print less, if there is less to print", letter="-q")
 VERBOSE = Option(
     "--verbose",
-    "of a comparison: print also how many changes each line of a list leaves out",
+    "of compare, show, json and page: print also how many changes each line of a list leaves out",
     letter="-v",
 )
 Asks = TypeVar("Asks", bound="Asked")
