@@ -41,11 +41,11 @@ class Standing(Enum):
 # What the member `same_as` of a proved line means.
 STANDING_BY_PROOF = {"old": Standing.SAME, "trusted": Standing.TRUSTED}
 LEFT_OUT = "left_out"  # The member of a proved line with the number of the list's line.
-# What decides on what is reported: settings, AIDE's configuration, the units and the cron job of
+# What decides on what is reported: settings, AIDE's configuration, the units and cron jobs of
 # the comparison. No trusted pair accounts for a change there, whatever happened on its machine.
 WATCHERS = re.compile(
     rb"/etc/aide-compare(?:/.*)?|/etc/aide(?:/.*)?|/etc/aide\.conf|/etc/default/aide"
-    rb"|/etc/cron\.daily/aide-compare"
+    rb"|/etc/cron\.(?:daily/aide-compare|d/aide-compare-fleet)"
     rb"|/(?:etc|run|lib|usr/lib|usr/local/lib)/systemd/(?:.*/)?(?:aide-|service\.d/|timer\.d/).*",
     re.DOTALL,
 )
