@@ -235,6 +235,7 @@ class WithoutTest(CommandTest):
             (["--exclude-from", "bin"], 18, b"bin"),
             (["--exclude-from", ""], 15, b""),
             (["--exclude-from", "link"], 18, b"other users can write the file"),
+            (["-c", "link"], 18, b"other users can write the configuration"),
             (["--exclude", "var\x1b"], 17, b"--exclude: a path begins with /: var\\033"),
             (["--exclude", "/a\n/**"], 15, b"--exclude has more than one line: /a\\012/**"),
             (["--exclude-from", "bad"], 17, b"bad, line 2" + double),

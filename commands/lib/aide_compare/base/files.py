@@ -18,7 +18,7 @@ from aide_compare.base.escapes import shown
 BLOCK = 1 << 18
 # Of a file of the administrator.
 MAX_TRUSTED_LINES = 10000
-MAX_TRUSTED_BYTES = 1 << 20
+MAX_TRUSTED_BYTES = 1 << 22
 TEMPORARY = ".aide-compare-"
 NAME_ANOTHER = " (name another directory by TMPDIR)"
 PRIVATE = 0o600

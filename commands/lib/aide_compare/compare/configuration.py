@@ -8,10 +8,9 @@ from __future__ import annotations
 
 from typing import NamedTuple
 
-from aide_compare.base.files import read_file
+from aide_compare.base.files import trusted_text
 
 NONE = "/dev/null"
-MAX_CONFIGURATION_BYTES = 4194304
 
 
 class ConfigurationTexts(NamedTuple):
@@ -25,4 +24,4 @@ def configuration_in(path: str) -> bytes:
     """The text of a configuration; /dev/null is an empty one."""
     if path == NONE:
         return b""
-    return read_file(path, MAX_CONFIGURATION_BYTES, "the configuration ")
+    return trusted_text(path, "the configuration")
