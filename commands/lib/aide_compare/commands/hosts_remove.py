@@ -55,5 +55,8 @@ def main(arguments: Sequence[str]) -> int:
             f"{host} is not in {shown(request.hosts_file)}, and nothing is kept of it",
         )
     if not request.is_quiet:
-        tell(f"{host} is watched no longer. Its key stays: ssh-keygen -R {host} removes it")
+        tell(
+            f"{host} is watched no longer. Its key stays:"
+            f" ssh-keygen -R {host} removes it from ~/.ssh/known_hosts"
+        )
     return Status.OK
