@@ -138,10 +138,12 @@ class RecordedTest(CommandTest):
             files = {LIB + b"tool.so.2": TWO, LIB + b"beside": TWO}
             host.packages.append(Package("tool", "2", files, listed=(LIB + b"tool.so",)))
             host.packages.append(Package("other", "1", {LIB + b"other": TWO}))
+            host.new.link(LIB + b"y", hashlib.md5(TWO).hexdigest().encode())
             host.new.link(LIB + b"z", b"beside")
-            host.packages.append(Package("tool-a", "2", {LIB + b"z": TWO, LIB + b"beside": ONE}))
-            wanted = {LIB + b"tool.so": want, LIB + b"beside": RECORDED, LIB + b"z": OPEN}
-            self.check(f"a link to {target!r}", host, wanted)
+            files = {LIB + b"y": TWO, LIB + b"z": TWO, LIB + b"beside": ONE}
+            host.packages.append(Package("tool-a", "2", files))
+            wanted = {LIB + b"y": OPEN, LIB + b"z": OPEN, LIB + b"beside": RECORDED}
+            self.check(f"a link to {target!r}", host, {LIB + b"tool.so": want, **wanted})
 
     def test_named(self) -> None:
         """Packages that came or went, also those of which configuration is left, are named before
@@ -191,17 +193,17 @@ class RecordedTest(CommandTest):
         host.new.link(LIB + b"tool.so", b"tool.so.2").file(LIB + b"ghost", TWO)
         host.new.link(LIB + b"evil.so", b"/tmp/evil").file(LIB + b"fresh", TWO)
         digest = hashlib.sha256(TWO).hexdigest()
-        rows = [f"0\ttool 1:2-3\t{digest}\t/usr/bin/tool", "(none)", "0\tfresh 1"]
-        rows += [f"0\ttool 1:2-3\ttool.so.2\t/usr/lib/{name}.so" for name in ("tool", "evil")]
-        rows.append(f"1\ttool 1:2-3\t{digest}\t/usr/lib/ghost")
-        rows.append(f"0\tfresh 1\t{digest}\t/usr/lib/fresh")
+        host.new.link(LIB + b"link", digest.encode())
+        rows = [f"0\ttool 1:2-3\t{digest}>\t/usr/bin/tool", "(none)", "0\tfresh 1"]
+        rows += [f"0\ttool 1:2-3\t>tool.so.2\t/usr/lib/{name}.so" for name in ("tool", "evil")]
+        rows.append(f"1\ttool 1:2-3\t{digest}>\t/usr/lib/ghost")
+        rows += [f"0\tfresh 1\t{digest}>\t/usr/lib/{name}" for name in ("fresh", "link")]
         self.write("rpm.said", "".join(row + "\n" for row in rows))
         self.stub("rpm", f'[ "$1 $2" = "-qa --dbpath" ] && cat "{self.path("rpm.said")}"')
         wanted = {
             BIN + b"tool": "recorded tool 1:2-3",
             LIB + b"tool.so": "recorded tool 1:2-3",
-            LIB + b"evil.so": OPEN,
-            LIB + b"ghost": OPEN,
+            **dict.fromkeys((LIB + b"evil.so", LIB + b"ghost", LIB + b"link"), OPEN),
             LIB + b"fresh": "recorded fresh 1",
         }
         self.check("rpm's records", host, wanted)
@@ -214,7 +216,7 @@ class RecordedTest(CommandTest):
             self.stub("rpm", stub)
             answer = self.call("aide-compare", "host-old.db", "host-new.db")
             told = [b"no package groups the changes: ", said]
-            self.expect(f"an rpm of {stub}", answer, 5, b"5 open", told)
+            self.expect(f"an rpm of {stub}", answer, 5, b"6 open", told)
 
 
 class MailTest(mail.MailTest):

@@ -46,7 +46,7 @@ class Judged:
         line_at = self.begin
         for form, path, key, line in reader.outlines():
             size = len(line)
-            silent = form.account and form.silent(path)
+            silent = form.silent(path)
             if silent is None:
                 known = form.value(known_of)
                 yield (

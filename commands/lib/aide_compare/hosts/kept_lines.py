@@ -66,8 +66,8 @@ def write_kept(target: int, comparison: Comparison, limit: int) -> Counts | None
 
 
 class KeptLines(Reader):
-    """The changes that were kept of a host; after the last one `told` says how many there were that
-    are not silent. What cannot be read is a Refused."""
+    """The changes that were kept of a host; after the last one `to_read` says how many there were
+    that are not silent. What cannot be read is a Refused."""
 
     format = KEPT_LINES_FORMAT
     is_proved = False  # A disk may have damaged a value.
