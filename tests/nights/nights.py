@@ -2,7 +2,7 @@
 mailed.
 
 For each machine: `aide-compare setup`, then one night after the other. A night is an event,
-Debian's own daily check, and the units of the package. DIR keeps one file for each night, and the
+Debian's own daily check, and the units of the package. WORK keeps one file for each night, and the
 databases. It needs root, mmdebstrap and systemd-nspawn.
 
 Each night is accepted by `aide-compare accept`.
