@@ -41,7 +41,7 @@ HELP = Help(
     description="""\
 Compares two AIDE databases, plain or compressed by gzip, and prints what differs,
 the most severe first; show prints the change of one path, json lines of JSON, page a page, and
---report the report as AIDE does.""",
+--report the report of aide-compare-program(8).""",
     epilog="""\
 Times are as in 90s, 15m, 26h or 3d; a plain number is seconds. Sizes are in bytes, or as in
 500k, 20M or 1G. Root becomes the user in whose directories the baseline and the outputs are, unless
@@ -77,7 +77,7 @@ class CompareRequest(Asked):
     exclude: Sequence[str] = field(EXCLUDE)
     trusted: Sequence[str] = field(TRUSTED, default=())
     wants_report: bool = option(
-        "--report", "print the report as AIDE does, as with an option report_* in -A"
+        "--report", "print the report of the program, as with an option report_* in -A"
     )
     only: Pattern | None = option(
         "--only",

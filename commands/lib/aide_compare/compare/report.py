@@ -1,4 +1,4 @@
-"""The report of the proved program, as AIDE prints it."""
+"""The report of the proved program."""
 from __future__ import annotations
 
 import os
