@@ -123,8 +123,8 @@ class Host(NamedTuple):
 class SharedChange:
     """A change that `hosts` of all have: the `names` of the first ones.
 
-    `various` are the attributes whose old values are not the same on all of them, `per_host` those
-    whose values are of each host and are not kept.
+    `various` are the attributes of the old values if not all of these are the same on all of them,
+    `per_host` those whose values are of each host and are not kept.
     """
 
     def __init__(self, fields: Fields) -> None:
