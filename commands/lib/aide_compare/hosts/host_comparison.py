@@ -51,7 +51,7 @@ class HostsRequest(HostsAsked):
 
     is_quiet: bool = field(
         QUIET,
-        help="only hosts with changes that are not silent, or not compared, and a summary",
+        help="only hosts with changes that are not silent, or not compared; if any, a summary",
     )
     jobs: int = option(
         "--jobs",
