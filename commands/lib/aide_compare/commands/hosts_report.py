@@ -34,9 +34,9 @@ from aide_compare.hosts.hosts_file import hosts_of
 from aide_compare.hosts.hosts_read import read_host
 from aide_compare.hosts.hosts_text import Report, headline, report_lines, short_lines
 from aide_compare.hosts.report_values import CUT, UNREADABLE, HostCounts, Summary
-from aide_compare.lines.reader import ENCODE
 from aide_compare.mail.message import build, clean, within
 from aide_compare.mail.sending import deliver, transport_for
+from aide_compare.show.json_lines import line_of
 
 HELP = Help(
     name="aide-compare hosts report",
@@ -88,8 +88,11 @@ def command_words(request: ReportRequest) -> list[str]:
         words += ["--store", os.path.abspath(request.store)]
     if request.max_age != RESULT_AGE.default:
         words += ["--max-age", str(request.max_age)]
-    if request.hosts_file != HOSTS_FILE:
-        words.append(os.path.abspath(request.hosts_file))
+    path = request.hosts_file
+    if path == "-":
+        words.append(path)
+    elif path != HOSTS_FILE:
+        words.append(os.path.abspath(path))
     return words
 
 
@@ -123,9 +126,9 @@ class HostsReport:
         """Yields the lines of JSON, the changes in the order of paths."""
         hosts = self.report.hosts
         for fields in (self.report.summary.fields(), *(host.fields() for host in hosts)):
-            yield ENCODE(fields).encode() + b"\n"
+            yield line_of(fields)
         for row in self.fleet.table.rows(order="place"):
-            yield ENCODE(self.fleet.shared(row, len(hosts)).fields).encode() + b"\n"
+            yield line_of(self.fleet.shared(row, len(hosts)).fields)
 
     def brief(self) -> Iterator[bytes]:
         """Yields the lines of the short text."""
