@@ -188,7 +188,7 @@ def commands_of(page: str) -> list[list[str]]:
     if name == "check_aide_compare":
         return [[sys.executable, "-c", CHECK, os.path.join(TOP, "commands", "lib")]]
     if name == "aide-compare-hosts":
-        return [[FRONT, "hosts", word] for word in ("add", "compare", "accept", "report")]
+        return [[FRONT, "hosts", word] for word in "add list remove compare accept report".split()]
     return [[FRONT, *name.split("-", 3)[2:]]]
 
 
