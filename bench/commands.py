@@ -6,7 +6,7 @@ directory of this run, as packaging/install does it. The commands run in turn, s
 print nothing to a terminal. Prints a table in Markdown: the least processor seconds (user and
 system) of a command with all programs that it starts, how many times that of the first row, and the
 peak memory of the largest of its processes. The first row is the program of lines, which all of
-these commands run. The rows of few entries are the fixed cost, for the two small databases of
+these comparisons run. The rows of few entries are the fixed cost, for the two small databases of
 examples/small_tree; their first row is Python that does nothing.
 """
 from __future__ import annotations
