@@ -119,6 +119,7 @@ class TextsTest(ModuleTest):
             ("came, with a rule that asks for little", (None, {"Size": 6}), "6 bytes"),
             ("came, without its group", (None, {"UID": 7}), "7:?"),
             ("changed in its time alone", ({"Mtime": 0}, {}), "mtime 1970-01-01T00:00:00Z -> none"),
+            ("has a type that was not known", ({}, {"Type": "Directory"}), "entry -> directory"),
         ]
         for label, pair, want in rows:
             self.expect("what %s, and when" % label, entry.entry_words(change_between(*pair)), want)

@@ -216,9 +216,10 @@ def decoded(label: str, value: Value, kind: str | None = None) -> str | None:
 
 
 def kinds_of(change: Change) -> Sequence[str | None]:
-    """The types of both sides in words: an old entry has that of the new one, unless the letters
-    say that it changed."""
-    kind = None if change.letters.startswith("!") else change.type
+    """The types of both sides in words: an old entry has that of the new one, unless the letters or
+    a side say that it changed."""
+    differ = change.letters.startswith("!") or "Type" in change.old or "Type" in change.new
+    kind = None if differ else change.type
     kinds: list[str | None] = []
     for values in change.sides:
         own = values.get("Type", kind)
