@@ -68,7 +68,7 @@ class TextsTest(MailTest):
         for words in (*addresses, ["--weekly=Foo"], ["--mail-time", "x"], ["more"]):
             answer = call(self, "old.db", "new.db", *words)
             self.assertEqual((answer.status, sent(self)), (15, None), (words, answer))
-        said = b"only one output can be standard output"
+        said = b"two outputs have one place, such as standard output"
         self.refused(15, said, TOOL, "--json=-", "--page=-", "old.db", "new.db", state="state")
         self.assertIn(said, body(sent(self)))
 

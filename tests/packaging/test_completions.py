@@ -72,14 +72,11 @@ print -r -- "$answer"
 
 
 def options(trial: InstallTest, words: str) -> list[str]:
-    """The options that the help of a subcommand has; aide-compare mail takes those of a comparison
-    too."""
+    """The options that the help of a subcommand has."""
     text = help_of(trial, words)
     found = {"--help"} | named_in(text)
     for line in re.findall(r"^usage: .*(?:\n {4,}.*)*", text, re.M):
         found |= set(re.findall(r"[\[(| ](--?[A-Za-z][\w-]*)", line))
-    if words == "mail":
-        found |= set(options(trial, "compare"))
     if words == "status":
         found |= named_in(help_of(trial, "status --format prometheus"))
     return sorted(found - {"-h"})

@@ -45,6 +45,7 @@ class MailRequestTest(ModuleTest):
             ("--send-queue q o n", "no databases are compared"),
             ("--test o n", "no databases are compared"),
             ("--odd", "unrecognized arguments: --odd"),
+            ("--report --only o n", "unrecognized arguments: --report --only"),
             ("o n --max-age x", "--max-age"),
             ("o", "name both databases"),
         ):
@@ -55,8 +56,7 @@ class MailRequestTest(ModuleTest):
         self.write("defaults", b"--to a@b\n--weekly Tue\n--max-age 5d\n")
         usual = {"address": "a@b", "weekly": "Tue"}
         self.asks("--to c@d", **{**usual, "address": "c@d"})
-        comparison = self.asks("o n --max-size 1G", **usual)
-        self.assertEqual(comparison.max_age, 5 * 86400)
+        self.asks("o n --max-size 1G", max_age=5 * 86400, **usual)
         self.asks("-- o n", **usual)
         self.asks("--state=s", state="s", **usual)
         for line, why in (("--to -x", "address"), ("--odd", "defaults, line 1: ")):

@@ -6,14 +6,20 @@ from collections.abc import Iterable, Sequence
 from contextlib import suppress
 from typing import TYPE_CHECKING
 
-from aide_compare.base.ending import Fault, Status, write_blocks
+from aide_compare.base.ending import Fault, write_blocks
 from aide_compare.base.escapes import encoded, shown
 from aide_compare.base.files import blocks_of, nameless
 from aide_compare.base.replacement import ANYBODY_READS
 from aide_compare.base.rights import become_owner, give_up
 from aide_compare.base.words import date_of, words_of_side
-from aide_compare.commands.compare_request import ONE_OUTPUT, CompareRequest, checked, given_by
-from aide_compare.commands.compare_request import with_defaults, work_request
+from aide_compare.commands.compare_request import (
+    CompareRequest,
+    PrintRequest,
+    checked,
+    given_by,
+    with_defaults,
+    work_request,
+)
 from aide_compare.compare.comparison import Comparison
 from aide_compare.compare.outputs import (
     STDOUT,
@@ -117,8 +123,7 @@ class ComparisonJob:
 
     def _files(self) -> list[str]:
         """The paths of the outputs that are files."""
-        paths = [path for _, path in self.options.outputs if descriptor_of(path) is None]
-        return [*paths, self.options.state] if self.options.state else paths
+        return [path for path in self.options.paths if descriptor_of(path) is None]
 
     def _open_outputs(self) -> None:
         """Opens the places of the outputs, as the user in whose directories they and the baseline
@@ -181,15 +186,15 @@ REPORT = "report"
 NOTHING = ""
 
 
-def form_of(request: CompareRequest) -> str:
+def form_of(request: PrintRequest) -> str:
     """What standard output gets: nothing if it is the place of an output."""
-    if request.outputs_on_stdout:
-        if request.wants_report or request.only:
-            raise Fault(Status.USAGE, ONE_OUTPUT)
-        return NOTHING
     if request.only:
         return ONLY
-    if request.wants_report or "report_" in request.after:
+    if request.wants_report:
+        return REPORT
+    if STDOUT in request.places:
+        return NOTHING
+    if "report_" in request.after:
         return REPORT
     return BRIEF
 
@@ -198,7 +203,7 @@ class Printer:
     """Prints a comparison: first what there is to say beside it, then what was found, so that on a
     terminal nothing pushes that off the screen."""
 
-    def __init__(self, request: CompareRequest) -> None:
+    def __init__(self, request: PrintRequest) -> None:
         self.request = request
         self.form = form_of(request)
         self.is_printed = self.form != NOTHING and not request.is_quiet
@@ -209,7 +214,7 @@ class Printer:
         if self.is_printed:
             before.append(Row(stream_output(STDOUT, "cannot write the report"), self._printed))
         after = [Row(notes, self._failure, of_failure=True)]
-        judges = self.form != REPORT or self.request.outputs or self.request.state
+        judges = self.form != REPORT or self.request.paths
         return ComparisonJob(self.request, before, after, bool(judges))
 
     def status_of(self, comparison: Comparison) -> int:
@@ -220,7 +225,7 @@ class Printer:
 
     def _printed(self, comparison: Comparison, judged: Judged | None) -> Iterable[bytes]:
         """What was asked for. If the changes are not known, that is the report."""
-        if self.form in (BRIEF, ONLY) and comparison.status == 0:
+        if self.form != REPORT and comparison.status == 0:
             return [no_difference(comparison)]
         if self.request.only:
             from aide_compare.show.changes import changes_with_values

@@ -1,6 +1,7 @@
 """What a comparison is asked for: by a command line, and by the administrator's defaults."""
 from __future__ import annotations
 
+import os
 from collections.abc import Sequence
 from typing import TYPE_CHECKING
 
@@ -51,11 +52,10 @@ Status: 0 nothing to read; 1 added, 2 removed, 4 changed, and sums of these, by 
 not silent; above 7 no comparison. With --report that of aide-compare-program(8), by all
 changes.""",
 )
-ONE_OUTPUT = "only one output can be standard output"
 
 
 class CompareRequest(Asked):
-    """What the options of a comparison ask for."""
+    """What the options of a comparison ask for, whatever becomes of it."""
 
     is_quiet: bool = field(QUIET, help="print neither the report nor a note")
     databases: Sequence[str] = field(
@@ -76,15 +76,6 @@ class CompareRequest(Asked):
     exclude_from: Sequence[str] = field(EXCLUDE_FROM)
     exclude: Sequence[str] = field(EXCLUDE)
     trusted: Sequence[str] = field(TRUSTED, default=())
-    wants_report: bool = option(
-        "--report", "print the report of the program, as with an option report_* in -A"
-    )
-    only: Pattern | None = option(
-        "--only",
-        "print only the changes of these paths, as '/etc/**', with their values",
-        "PATTERN",
-        kind=pattern,
-    )
     user: str | None = field(USER)
     no_defaults: bool = field(NO_DEFAULTS)
 
@@ -99,18 +90,44 @@ class CompareRequest(Asked):
         return [(row, path) for row, path in places if path]
 
     @property
-    def outputs_on_stdout(self) -> int:
-        """How many further outputs have standard output as their place."""
-        return [descriptor_of(path) for _, path in self.outputs].count(STDOUT)
+    def paths(self) -> list[str]:
+        """Those of all outputs, the state file among them."""
+        paths = [path for _, path in self.outputs]
+        return [*paths, self.state] if self.state else paths
+
+    @property
+    def places(self) -> list[int | str]:
+        """The places of all outputs: descriptors, and files by one name each."""
+        return [descriptor_of(path) or os.path.realpath(path) for path in self.paths]
+
+
+class PrintRequest(CompareRequest):
+    """The same of a command that prints the comparison."""
+
+    wants_report: bool = option(
+        "--report", "print the report of the program, as with an option report_* in -A"
+    )
+    only: Pattern | None = option(
+        "--only",
+        "print only the changes of these paths, as '/etc/**', with their values",
+        "PATTERN",
+        kind=pattern,
+    )
+
+    @property
+    def places(self) -> list[int | str]:
+        printed = filter(None, (self.wants_report, self.only))
+        return [*super().places, *(STDOUT for _ in printed)]
 
 
 def given_by(arguments: Sequence[str], usage: str = HELP.usage) -> Given:
     """What the arguments give."""
-    return Parser(CompareRequest, HELP._replace(usage=usage)).parse(arguments)
+    return Parser(PrintRequest, HELP._replace(usage=usage)).parse(arguments)
 
 
-def check_databases(request: CompareRequest) -> None:
-    """Refuses operands that do not name both databases."""
+def checked(given: Given) -> CompareRequest:
+    """What a command line alone asks for, with no database or with both."""
+    request = filled(CompareRequest, given, {})
     databases = request.databases
     if len(databases) == 1:
         raise HELP.fault("name both databases, OLD and NEW, or none")
@@ -119,31 +136,24 @@ def check_databases(request: CompareRequest) -> None:
         raise HELP.fault(text)
     if request.configuration and not databases:
         raise HELP.fault("--config names no databases: name OLD and NEW")
-
-
-def checked(given: Given) -> CompareRequest:
-    """What a command line alone asks for."""
-    request = filled(CompareRequest, given, {})
-    check_databases(request)
     return request
 
 
-def with_defaults(given: Given, arguments: Sequence[str]) -> CompareRequest:
+def with_defaults(given: Given, arguments: Sequence[str]) -> PrintRequest:
     """What the arguments ask for that give these values, and the administrator's defaults where
     these say nothing."""
     defaults = comparison_defaults(given["databases"], arguments)
-    return filled(CompareRequest, given, defaults)
+    return filled(PrintRequest, given, defaults)
 
 
 def work_request(request: CompareRequest) -> ComparisonInput:
     """What is compared, and how."""
-    check_databases(request)
     if not request.databases:
         raise Fault(Status.USAGE, "no databases are named", ADVICE)
     if [*request.databases, *request.trusted].count("-") > 1:
         raise Fault(Status.USAGE, "standard input can hold only one database")
-    if request.outputs_on_stdout > 1:
-        raise Fault(Status.USAGE, ONE_OUTPUT)
+    if len(set(request.places)) < len(request.places):
+        raise Fault(Status.USAGE, "two outputs have one place, such as standard output")
     old, new = request.databases
     return ComparisonInput(
         old=old,
