@@ -50,7 +50,7 @@ class HostsBriefTest(CommandTest):
         text = hosts.report("--format=brief").output_text
         rows = text.rstrip("\n").split("\n")
         self.assertTrue(60 < len(rows) <= 80, len(rows))
-        command = rows.index("All changes with their values:")
+        command = rows.index("All hosts, and all changes with their values:")
         self.assertLessEqual(max(map(len, rows[:command])), 80)
         missing = re.findall(r"(?m)^Not compared \((.+)\):\n(?:  .*\n){11}  and (.+) more\n", text)
         self.assertEqual([int(count) - int(more) for count, more in missing], [11], text)
@@ -68,7 +68,8 @@ class HostsBriefTest(CommandTest):
             self.assertRegex(said, rf"(?s)  /d: {words}\n.* -\n\Z")
 
     def test_end(self) -> None:
-        """No text ends with an empty line, whatever its last part is."""
+        """No text ends with an empty line, whatever its last part is. The brief ends with the
+        command for all that has no room, also for hosts that were not compared."""
         hosts = Hosts(self)
         self.stub("sendmail", f'cat > "{self.root}/mail"')
         for names in (["never"], ["never", "www"], ["same"]):
@@ -78,6 +79,7 @@ class HostsBriefTest(CommandTest):
             texts = [hosts.report(f"--format={form}").output_text for form in ("brief", "text")]
             if "never" in names:
                 texts.append(self.read("mail").decode())
+            self.assertRegex(texts[0], r"(?s)\n\nAll hosts, .*:\n    .* hosts report .*\n\Z")
             for text in texts:
                 self.assertRegex(text, r"[^\n]\n\Z", names)
                 self.assertNotIn("\n\n\n", text, names)

@@ -6,6 +6,7 @@ many lines and columns that people read it.
 from __future__ import annotations
 
 from collections.abc import Callable, Iterable, Iterator, Sequence
+from functools import partial
 from typing import NamedTuple
 
 from aide_compare.base.escapes import guarded
@@ -16,7 +17,7 @@ from aide_compare.hosts.report_values import CUT, UNREADABLE, Host, SharedChange
 from aide_compare.lines.attributes import word_of
 from aide_compare.mail.columns import command_lines, note_lines
 from aide_compare.show.changes import change_lines
-from aide_compare.show.digest import MAIL, Room, digest, entry_line, shortened
+from aide_compare.show.digest import MAIL, Room, entry_line, open_lines, shortened
 from aide_compare.show.entry import entry_words
 
 MAX_ROWS = 80
@@ -171,19 +172,13 @@ def room_of(report: Report, height: int) -> Room:
 
 
 def short_changes(report: Report, height: int) -> Iterator[str]:
-    """At most so many lines for changes, each severity under its title."""
+    """At most so many lines for changes."""
 
     def on_host(number: int, width: int) -> str:
         return f"on {shortened(report.hosts[number].name, width - 3)}"
 
-    room = room_of(report, max(height - len(SEVERITIES), 1))
-    last = ""
-    for part in digest(report.table, room, on_host):
-        if part.severity != last:
-            yield f"Open, severity {part.severity}:"
-        last = part.severity
-        yield from grouped_lines(report, part.rows)
-        yield from (f"  {words}" for words in part.rest)
+    room = room_of(report, height - len(SEVERITIES))
+    return open_lines(report.table, room, on_host, partial(grouped_lines, report))
 
 
 def short_lines(report: Report) -> Iterator[str]:
@@ -201,6 +196,6 @@ def short_lines(report: Report) -> Iterator[str]:
         yield ""
         # Two empty lines, and the command at the end.
         yield from short_changes(report, MAX_ROWS - len(head) - 7)
-        yield ""
-        yield "All changes with their values:"
-        yield from command_lines(report.command)
+    yield ""
+    yield "All hosts, and all changes with their values:"
+    yield from command_lines(report.command)

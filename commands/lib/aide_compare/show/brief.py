@@ -7,25 +7,14 @@ from collections.abc import Iterator, Sequence
 from aide_compare.base.escapes import encoded, guarded
 from aide_compare.base.words import SEVERITIES
 from aide_compare.changes.judged import Judged
+from aide_compare.changes.table import Row
 from aide_compare.lines.change import Counts, Standing
-from aide_compare.show.digest import SCREEN, Room, digest, entry_line, in_directory
+from aide_compare.show.digest import SCREEN, Room, entry_line, in_directory, open_lines
 from aide_compare.show.entry import entry_words
 from aide_compare.show.groups import group_lines
 
 WIDTH = 100  # Of lines with names, if lines have no limit.
 MAX_NAME = 40
-
-
-def open_lines(judged: Judged, room: Room) -> Iterator[str]:
-    """The lines for open changes, each severity under its title."""
-    last = ""
-    for part in digest(judged.table, room, in_directory):
-        if part.severity != last:
-            yield f"Open, severity {part.severity}:"
-        last = part.severity
-        for row in part.rows:
-            yield entry_line(row, entry_words(judged.read(row)), "  ", room.width)
-        yield from (f"  {words}" for words in part.rest)
 
 
 def silent_words(counts: Counts) -> str:
@@ -66,8 +55,13 @@ def brief(judged: Judged, room: Room, warnings: Sequence[str] = (), height: int 
     if height:
         used = len(head) + sum(len(part) + 1 for part in end if part) + 1 + len(SEVERITIES)
         room = room._replace(height=max(height - used, 1))
+
+    def lines_of(rows: Iterator[Row]) -> Iterator[str]:
+        for row in rows:
+            yield entry_line(row, entry_words(judged.read(row)), "  ", room.width)
+
     lines = head
-    for part in (list(open_lines(judged, room)), *end):
+    for part in (list(open_lines(judged.table, room, in_directory, lines_of)), *end):
         if part:
             lines += ["", *part]
     return lines

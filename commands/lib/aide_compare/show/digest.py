@@ -80,14 +80,9 @@ class Part(NamedTuple):
     """The open changes of one severity and one group of owners: those that are listed, and the
     words that count the others."""
 
-    level: int
-    places: list[int]
+    severity: str
     rows: Iterator[Row]
-    rest: list[str]
-
-    @property
-    def severity(self) -> str:
-        return SEVERITIES[self.level]
+    rest: Iterator[str]
 
 
 def rooms_of(limit: int, *steps: Sequence[int]) -> list[int]:
@@ -126,7 +121,20 @@ def digest(table: Table, room: Room, names: Names) -> Iterator[Part]:
         places = chosen(table, level, owners, lines, room)
         table.do_all("update changes set is_listed = true where place = ?", zip(places))
         rest = rest_words(table, level, owners, room, names)
-        yield Part(level, places, map(table.row, places), list(rest))
+        yield Part(SEVERITIES[level], map(table.row, places), rest)
+
+
+def open_lines(
+    table: Table, room: Room, names: Names, lines_of: Callable[[Iterator[Row]], Iterator[str]]
+) -> Iterator[str]:
+    """The lines for the open changes that there is room for, each severity under its title."""
+    last = ""
+    for part in digest(table, room, names):
+        if part.severity != last:
+            yield f"Open, severity {part.severity}:"
+        last = part.severity
+        yield from lines_of(part.rows)
+        yield from (f"  {words}" for words in part.rest)
 
 
 def chosen(table: Table, level: int, owners: int, limit: int, room: Room) -> list[int]:
