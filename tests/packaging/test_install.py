@@ -94,8 +94,7 @@ class InstallingTest(InstallTest):
         found = self.installed("first")
         prefix = "usr/local/"
         given = {path[len(prefix) :]: mode for path, (mode, _) in files(found).items()}
-        different = {path: (wanted.get(path), given.get(path)) for path in differing(wanted, given)}
-        self.assertEqual(different, {}, "wanted and given modes")
+        self.assertEqual(given, wanted, "the modes of files")
         folders = {mode for mode, data in found.values() if data is None}
         self.assertEqual(folders, {0o755}, "the modes of folders")
         programs = (self.program, lines_program_of(self.program), *self.newer)
@@ -164,13 +163,10 @@ class InstallingTest(InstallTest):
         """An installation that stopped half-way can be removed."""
         source, folder = self.copy("damaged"), self.path("half")
         shutil.copy(os.path.join(source, "VERSION"), os.path.join(source, "man", "zzz.1"))
-        script = os.path.join(source, "packaging", "install")
-        with open(script) as file:
-            text = file.read()
         # This copy of the script stops before its last file, as if it was killed there.
-        killed = "put() {\n    case $4 in */zzz.1) kill -9 $$ ;; esac\n"
-        with open(script, "w") as file:
-            file.write(text.replace("put() {\n", killed))
+        killed = b"put() {\n    case $4 in */zzz.1) kill -9 $$ ;; esac\n"
+        script = self.read("damaged/packaging/install").replace(b"put() {\n", killed)
+        self.write("damaged/packaging/install", script)
         room = dict(os.environ, TMPDIR=self.root)  # Its private directory is left.
         done = self.run_install(folder, source=source, env=room)
         self.assertNotEqual(done.status, 0)
@@ -208,12 +204,17 @@ class InstallingTest(InstallTest):
             self.assertFalse(os.path.exists(folder), arguments)
         alone = self.write("alone/aide", "a program\n", 0o755)
         for program, missing in (
-            (self.path("aide-nowhere"), self.path("aide-nowhere")),
+            (self.path("aide-nowhere"), self.path("aide_lines-nowhere")),
             (alone, alone + "_lines"),
             (self.path("nowhere"), "has to begin with aide"),
         ):
             done = self.install("--destdir", folder, "--program", program)
             self.refuses("a program that is not there", folder, done, missing)
+        os.rename(alone, alone + "_lines")
+        done = self.install("--destdir", folder, "--program", alone)
+        self.refuses("one of two programs", folder, done, "there is no program " + alone)
+        done = self.install("--destdir", folder, "--lines-only", "--program", alone)
+        self.assertEqual((done.status, done.error_text), (0, ""), done)
         done = self.install("--help")
         self.assertEqual((done.status, "--uninstall" in done.output_text), (0, True), done)
         self.assertIn("17 minutes", done.output_text)
@@ -237,8 +238,7 @@ class InstallingTest(InstallTest):
 
     def built(self) -> list[str]:
         """The crates of the programs that rt was asked for since the last call."""
-        with open(self.path("calls")) as file:
-            lines = file.read().splitlines()
+        lines = self.read("calls").decode().splitlines()
         self.write("calls", "")
         return [
             os.path.basename(line.removesuffix(" run -- -D -c /dev/null"))
@@ -272,8 +272,7 @@ class InstallingTest(InstallTest):
         done = self.install("--destdir", folder, source=source, env=self.plain())
         self.refuses("no program and no rt", folder, done, "rt", "--program")
         both = ["aide_lines", "aide"]
-        nothing: list[str] = []
-        for old, wanted in (("", both), ("", nothing), (built, both[1:]), (lines_built, both[:1])):
+        for old, wanted in (("", both), ("", both[:0]), (built, both[1:]), (lines_built, both[:1])):
             if old:
                 os.utime(old, (1, 1))
             done = self.install("--destdir", folder, source=source, env=surroundings)
