@@ -50,8 +50,7 @@ def contents(sandbox: CommandTest) -> Contents:
 
 
 def accept(sandbox: CommandTest, digest: str, *words: str, **more: Any) -> Answer:
-    answer: Answer = sandbox.call(TOOL, "--sha256", digest, *words, *FILES, **more)
-    return answer
+    return sandbox.call(TOOL, "--sha256", digest, *words, *FILES, **more)
 
 
 class AcceptingTest(CommandTest):

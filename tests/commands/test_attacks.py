@@ -30,8 +30,7 @@ class AttacksTest(CommandTest):
         return answer
 
     def with_memory(self, size: int, tool: str, *words: str) -> Answer:
-        answer: Answer = self.call(tool, *words, before=LIMITED % ("AS", size << 20, size << 20))
-        return answer
+        return self.call(tool, *words, before=LIMITED % ("AS", size << 20, size << 20))
 
     def test_few_descriptors(self) -> None:
         for count in range(4, 26):

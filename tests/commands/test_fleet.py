@@ -68,14 +68,10 @@ class Fleet:
 
     def list_hosts(self, *hosts: str) -> str:
         """The file of hosts, which has these names."""
-        path: str = self.sandbox.write("hosts", "".join("%s\n" % host for host in hosts))
-        return path
+        return self.sandbox.write("hosts", "".join("%s\n" % host for host in hosts))
 
     def words(self, command: str, *words: str) -> list[str]:
-        found: list[str] = self.sandbox.command(
-            command, "--store", self.sandbox.path("store"), *words
-        )
-        return found
+        return self.sandbox.command(command, "--store", self.sandbox.path("store"), *words)
 
     def start(self, words: Sequence[str], **more: Any) -> subprocess.Popen[bytes]:
         places = (self.sandbox.path("stubs"), self.sandbox.path("bin"), os.environ["PATH"])

@@ -22,9 +22,8 @@ class HostsBriefTest(CommandTest):
         hosts = Hosts(self)
         changed = (OLD, database(SHADOW))
         flood = (line(b"/etc/cron.d/%05d" % number, b"x") for number in range(FLOOD))
-        texts = {"evil1": (OLD, database(SHADOW, *flood))}
-        texts.update(good1=changed, good2=changed, good3=(OLD, OLD))
-        hosts.compared(texts)
+        evil = (OLD, database(SHADOW, *flood))
+        hosts.compared({"evil1": evil, "good1": changed, "good2": changed, "good3": (OLD, OLD)})
         self.stub("sendmail", f'cat > "{self.root}/mail"')
         hosts.report("--to", "root")
         mailed = self.read("mail").decode().partition("\n\n")[2]

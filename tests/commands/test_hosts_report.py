@@ -13,7 +13,7 @@ import shutil
 import signal
 import subprocess
 import time
-from collections.abc import Callable, Iterator, Sequence
+from collections.abc import Iterator, Sequence
 from typing import Any
 
 from tests.lib.answer import Answer
@@ -72,8 +72,8 @@ class Hosts(Fleet):
         self.list_hosts(*names)
 
     def report(self, *words: str, before: Sequence[str] = ()) -> Answer:
-        hosts = self.sandbox.path("hosts")
-        return self.call("aide-compare hosts report", *words, hosts, before=before)
+        path = self.sandbox.path("hosts")
+        return self.call("aide-compare hosts report", *words, path, before=before)
 
     def objects(self, *words: str) -> Objects:
         """The objects of a report in JSON: the summary, the hosts by their names, and the
@@ -208,21 +208,22 @@ class HostsReportTest(CommandTest):
         """What cannot be read of one host, such as on a damaged disk, keeps no other host from the
         report."""
         hosts = Hosts(self)
-        hosts.compared({f"good{number}": (OLD, NEW) for number in range(1, 6)})
-        makers: dict[str, Callable[[str], object]]
-        makers = {"good1": os.mkdir, "good2": lambda path: os.symlink("none", path)}
-        for name, make in makers.items():
+        hosts.compared({f"good{number}": (OLD, NEW) for number in range(1, 7)})
+        for name in ("good1", "good2"):
             os.remove(self.path(f"store/hosts/{name}/lock"))
-            make(self.path(f"store/hosts/{name}/lock"))
+        os.mkdir(self.path("store/hosts/good1/lock"))
+        os.symlink("none", self.path("store/hosts/good2/lock"))
         shutil.rmtree(self.path("store/hosts/good3"))
         self.write("store/hosts/good3", "")
         os.remove(self.path("store/hosts/good4/lines"))
         os.symlink("/proc/self/mem", self.path("store/hosts/good4/lines"))
+        odd = self.read("store/hosts/good6/lines").replace(b'"Perm":"0', b'"Perm":"x')
+        self.write("store/hosts/good6/lines", odd)
         summary, found, changes = hosts.objects()
         counts = [summary[key] for key in ("differ", "not_compared", "not_listed", "changes")]
-        self.assertEqual(counts, [2, 3, 1, 4], found)
+        self.assertEqual(counts, [3, 3, 2, 4], found)
         self.assertEqual({name for each in changes for name in each["names"]}, {"good5"})
-        self.assertEqual(found["good4"]["report"], "unreadable")
+        self.assertEqual([found[f"good{at}"]["report"] for at in (4, 6)], ["unreadable"] * 2)
         self.assertIn("Is a directory", found["good1"]["error"])
         self.assertIn("Too many levels", found["good2"]["error"])
         self.assertTrue(found["good3"]["error"])
@@ -257,8 +258,7 @@ class HostsReportTest(CommandTest):
         """The mail about all hosts. The command prints nothing."""
         said = hosts.report("--to", "root", *words)
         self.assertEqual(said, Answer(b"", b"", 18))
-        text: str = self.read("mail").decode()
-        return text
+        return self.read("mail").decode()
 
     def test_mail(self) -> None:
         """One mail for all hosts; none without differences; bounded; an error if it cannot be

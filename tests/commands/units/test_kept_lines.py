@@ -4,6 +4,7 @@ from __future__ import annotations
 import io
 import json
 import os
+from functools import partial
 from typing import Any
 from unittest import mock
 
@@ -11,36 +12,31 @@ from tests.commands.units.calls import ModuleTest
 from tests.commands.units.streams import fields_of, line_of, stream_of
 from tests.oracle.database import LINE_LIMIT
 
+from aide_compare.base.ending import Fault
 from aide_compare.base.files import in_memory
 from aide_compare.base.paths import key_of_path
 from aide_compare.changes.judged import Judged
+from aide_compare.compare.state import State
 from aide_compare.hosts import kept_lines
-from aide_compare.hosts.kept_lines import KeptLines, write_kept
+from aide_compare.hosts.fleet import Fleet
+from aide_compare.hosts.hosts_read import host_of, read_changes
+from aide_compare.hosts.kept_lines import write_kept
+from aide_compare.hosts.report_values import CUT, UNREADABLE, WHOLE
 from aide_compare.lines import reader
 from aide_compare.lines.change import Counts, Fields
 from aide_compare.lines.reader import Reader, Refused, reader_over
 
 ROOM = 1 << 20
 SOUND = [fields_of("/srv/a"), fields_of("/srv/b", "removed")]
-TOLD = Counts(same=3, open=4, open_high=1, open_low=3, left_out=2, told_status=3)
-END: Fields = {"end": True, "listed": 2, **TOLD._asdict()}
 # More lines than are looked at before one expression tells those of a form.
 MANY = [fields_of(f"/srv/{number}") for number in range(10, 30)]
 MANY += [fields_of(f"/srv/{number}", "changed", same_as="old") for number in range(30, 50)]
 MANY += [fields_of(f"/srv/{name}") for name in ("\\", "\\n", "x\ty", 'x"', "\x7f", "\xe9")]
 
 
-def read_back(*lines: Fields) -> list[str]:
-    """The paths that a reader of these lines gives."""
-    return read_bytes(b"".join(map(line_of, lines)))
-
-
 def read_bytes(data: bytes) -> list[str]:
-    return [path.decode() for _, path, _, _ in kept_in(data).outlines()]
-
-
-def kept_in(data: bytes) -> KeptLines:
-    return KeptLines(io.BytesIO(data))
+    """The paths that a reader of these lines gives."""
+    return [path.decode() for _, path, _, _ in Reader(io.BytesIO(data)).outlines()]
 
 
 class KeptLinesTest(ModuleTest):
@@ -51,23 +47,49 @@ class KeptLinesTest(ModuleTest):
         comparison: Any = mock.Mock(known_lines=lambda: lines)
         target = in_memory(b"")
         counts = write_kept(target, comparison, ROOM)
-        assert counts is not None
-        self.assertEqual(counts.open, 2)
+        self.assertEqual(counts and counts.open, 2)
         self.assertEqual(read_bytes(os.pread(target, ROOM, 0)), ["/srv/a", "/srv/b"])
-        lines.is_cut = True
-        self.assertIsNone(write_kept(target, comparison, ROOM))
-        lines.is_cut = False
         lines.fd = in_memory(b'{"format":4,"old":"o","new":"n"}\n')
         self.fails(18, "are not understood", write_kept, target, comparison, ROOM)
+        lines.is_cut = True
+        self.assertIsNone(write_kept(target, comparison, ROOM))
 
     def test_read(self) -> None:
-        """A file that was kept comes back with what it says of the changes that have no line."""
-        judged = Judged(reader_over(stream_of(*SOUND)))
-        kept = kept_in(b"".join(kept_lines.kept_lines(judged, ROOM)))
-        lines = [(line, form.kind, form.account) for form, _, _, line in kept.outlines()]
-        wanted = [(line_of(each), each["kind"], None) for each in SOUND]
-        self.assertEqual((lines, kept.to_read), (wanted, 2))
-        self.assertEqual(read_back({"format": 3}, *SOUND, END), ["/srv/a", "/srv/b"])
+        """What is kept is a stream as of aide_lines, whose end has the standings of all changes."""
+        silent = [fields_of("/srv/c", "changed", same_as="old"), fields_of("/srv/d", left_out=1)]
+        told = [fields_of("/etc/aide.conf", same_as="trusted"), *SOUND]
+        judged = Judged(reader_over(stream_of(*silent, *told)))
+        for limit, count in ((1, 0), (ROOM, 3)):
+            kept = Reader(io.BytesIO(b"".join(kept_lines.kept_lines(judged, limit))))
+            lines = [json.loads(line) for *_, line in kept.outlines()]
+            self.assertEqual((lines, kept.summary["old"]), (told[:count], "o"))
+            self.assertEqual((kept.counts.total, kept.counts.changes), (5, count))
+            counts = Counts(same=1, left_out=1, open=3, open_high=1, open_medium=2, told_status=3)
+            self.assertEqual(kept.end["standings"], counts._asdict())
+
+    def test_hosts(self) -> None:
+        """No line of a host ends the report of others, whatever a damaged disk has made of it."""
+        judged = Judged(reader_over(stream_of(*MANY[:20])))
+        few, many = (b"".join(kept_lines.kept_lines(judged, limit)) for limit in (2000, ROOM))
+        rows = [(WHOLE, 20, many), (CUT, 13, few)]
+        rows.append((UNREADABLE, 20, many.replace(b'"open":20', b'"open":21')))
+        # No number of JSON, no text, no value, and no end, in a line whose form is known.
+        deep = b'"GID":' + b"[" * 9000
+        for word, other in zip(
+            (b"17", b"/29", b'"0644"', b'"UID":0', b'"File"', b'"GID":0'),
+            (b"017", b"/\xff", b'"0z44"', b'"UID":"x"', b"[]", deep),
+        ):
+            rows.append((UNREADABLE, 19, other.join(many.rsplit(word, 1))))
+        host = host_of("www", 1, "", State(1, 0, 20, 0, 0, standings=judged.counts))
+        directory: Any = mock.Mock(file=self.path)
+        for report, listed, data in rows:
+            self.write("lines", data)
+            found = read_changes(directory, host, partial(Fleet(["www"]).add, 0))
+            self.expect(str(data[-2000:]), (found.report, found.listed), (report, listed))
+        full = mock.Mock(side_effect=Fault(18, "no room for rows"), __name__="full")
+        self.fails(18, "no room for rows", read_changes, directory, host, full)
+        os.remove(self.path("lines"))
+        self.assertEqual(read_changes(directory, host, full).report, UNREADABLE)
 
     def test_judged(self) -> None:
         """Each line has its standing, wherever the silent ones are among all."""
@@ -118,38 +140,27 @@ class KeptLinesTest(ModuleTest):
 
     def test_refused(self) -> None:
         """What another hand, or a full disk, has made of the file is not read as fewer changes."""
-        first = {"format": 3}
-        few = {**END, "open": 1, "open_high": 1, "open_low": 0}
+        data = os.pread(stream_of(*SOUND), ROOM, 0)
+        first, *_, end = map(json.loads, data.splitlines())
         rows: list[tuple[str, list[Fields]]] = [
-            ("of format 3", [{"format": 2}, *SOUND, END]),
-            ("ends too early", [first, *SOUND]),
-            ("this is no change", [first, {**SOUND[0], "path": "srv"}, SOUND[1], END]),
-            ("this is no change", [first, {**SOUND[0], "kind": "x"}, SOUND[1], END]),
-            ("this is no change", [first, {**SOUND[0], "new": {"Size": []}}, SOUND[1], END]),
-            ("not in the order", [first, *reversed(SOUND), END]),
-            ("the end does not fit", [first, {**SOUND[0], "same_as": "old"}, SOUND[1], END]),
-            ("the end does not fit", [first, {**SOUND[0], "left_out": 1}, SOUND[1], END]),
-            ("the end does not fit", [first, SOUND[0], END]),
-            ("the end does not fit", [first, *SOUND, few]),
-            ("the end does not fit", [first, *SOUND, {**END, "open": 5}]),
-            ("the end does not fit", [first, *SOUND, {**END, "same": "3"}]),
-            ("the end does not fit", [first, *SOUND, {"end": True, "listed": 2}]),
-            ("the end does not fit", [first, *SOUND, END, SOUND[0]]),
+            ("of format 4", [{**first, "format": 3}, *SOUND, end]),
+            ("this is no change", [first, {**SOUND[0], "path": "srv"}, SOUND[1], end]),
+            ("this is no change", [first, {**SOUND[0], "kind": "x"}, SOUND[1], end]),
+            ("this is no change", [first, {**SOUND[0], "new": {"Size": []}}, SOUND[1], end]),
+            ("not in the order", [first, *reversed(SOUND), end]),
+            ("the end does not fit", [first, {**SOUND[0], "same_as": "old"}, SOUND[1], end]),
+            ("the end does not fit", [first, {**SOUND[0], "left_out": 1}, SOUND[1], end]),
+            ("the end does not fit", [first, SOUND[0], end]),
+            ("the end does not fit", [first, *SOUND, {**end, "same_as_old": "3"}]),
+            ("the end does not fit", [first, *SOUND, {"end": True, "status": 3}]),
         ]
         for words, lines in rows:
             with self.subTest(words, lines=lines), self.assertRaisesRegex(Refused, words):
-                read_back(*lines)
-        whole = b"".join(map(line_of, (first, *SOUND, END)))
-        many = {**END, "listed": 20, "open": 20, "open_low": 19}
-        alike = b"".join(map(line_of, (first, *MANY[:20], many)))
-        self.assertEqual(len(read_bytes(alike)), 20)
-        # No number of JSON, and no text, in a line whose form is known.
-        odd = [new.join(alike.rsplit(old, 1)) for old, new in ((b"17", b"017"), (b"/29", b"/\xff"))]
-        cut = whole[: len(whole) // 2]
-        for data in (b"", whole[:-1], cut, whole.replace(b"{", b"[", 1), *odd):
-            with self.subTest(data=data), self.assertRaises(Refused):
-                read_bytes(data)
-        room = reader.LINE_LIMIT // LINE_LIMIT
-        self.assertIn(room, range(17, 33), "two lines of databases, as text and in base 16")
+                read_bytes(b"".join(map(line_of, lines)))
+        for other in (b"", data[:-1], data[: len(data) // 2], data.replace(b"{", b"[", 1)):
+            with self.subTest(data=other), self.assertRaises(Refused):
+                read_bytes(other)
+        # Two lines of databases, as text and in base 16.
+        self.assertIn(reader.LINE_LIMIT // LINE_LIMIT, range(17, 33))
         with mock.patch.object(reader, "LINE_LIMIT", 100), self.assertRaises(Refused):
-            read_bytes(whole)
+            read_bytes(data)

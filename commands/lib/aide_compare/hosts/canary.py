@@ -24,7 +24,7 @@ from aide_compare.compare.exclusions import Exclusions
 from aide_compare.compare.state import State, read_state
 from aide_compare.compare.unpack import Copy, copy_database
 from aide_compare.hosts.host_comparison import HostsRequest
-from aide_compare.hosts.hosts_read import KeptChanges, host_of
+from aide_compare.hosts.hosts_read import host_of, read_changes
 from aide_compare.hosts.report_values import WHOLE, Host
 from aide_compare.hosts.store import BASELINE, MAX_BASELINE, NEW_FILE, PREVIOUS, HostDirectory
 
@@ -75,10 +75,10 @@ def refuse_cut(directory: HostDirectory, state: State) -> bool:
     host = host_of(directory.host, state.told_status, state.error, state)
     if not host.differs:
         return False
-    kept = KeptChanges(directory, host)
-    listed = sum(1 for _ in kept)
-    if kept.report != WHOLE:
-        raise directory.fault(f"only {listed} of its changes are listed, so it says too little")
+    host = read_changes(directory, host, lambda _: None)
+    if host.report != WHOLE:
+        why = f"only {host.listed} of its changes are listed, so it says too little"
+        raise directory.fault(why)
     return True
 
 

@@ -15,8 +15,8 @@ from aide_compare.changes.table import Row, Table
 from aide_compare.changes.weighing import known_of
 from aide_compare.hosts.report_values import SharedChange
 from aide_compare.lines.attributes import FORMS
-from aide_compare.lines.change import Fields
-from aide_compare.lines.reader import ENCODE, Outline
+from aide_compare.lines.change import Fields, change_of
+from aide_compare.lines.reader import HEX, Outline
 from aide_compare.lines.rights import differing
 
 OWN = frozenset(["Bcount", "Atime", "Mtime", "Ctime", "Inode", "Linkcount"])
@@ -50,17 +50,12 @@ where same = (select same from found where rowid = ?) order by host"""
 
 
 def digest_of(*values: object) -> bytes:
-    return hashlib.sha256(ENCODE(values).encode()).digest()[:16]
-
-
-def label_of(name: str) -> str:
-    """The attribute that a member of a side is of."""
-    return name.removesuffix("_hex")
+    return hashlib.sha256(repr(values).encode()).digest()[:16]
 
 
 def without(side: Fields, labels: Iterable[str]) -> Fields:
-    """A side without the values of some attributes."""
-    return {name: value for name, value in side.items() if label_of(name) not in labels}
+    """A side without the values of some attributes. These are numbers, so none is in base 16."""
+    return {label: value for label, value in side.items() if label not in labels}
 
 
 class Fleet:
@@ -79,22 +74,20 @@ class Fleet:
         form, path, key, line = outline
         known = form.value(known_of)
         rank = self.severity.rank(path, known.held)
-        fields = differing(json.loads(line))
+        change = change_of(json.loads(line))
         own = OWN
-        if fields.get("type") == "Directory":
+        if change.type == "Directory":
             own = OWN | {"Size"}  # The size of a directory is one of these values, too.
-        old = fields.get("old", {})
-        new = fields.get("new", {})
-        labels = {label_of(name) for name in (*old, *new)}
-        what = (path.hex(), form.kind, fields.get("type"), rank // RANKS, known.owners)
+        labels = {*change.old, *change.new}
+        what = (path, form.kind, change.type, rank // RANKS, known.owners)
         row = (
             host,
             key,
-            digest_of(what, sorted(labels - own), without(new, own)),
+            digest_of(what, sorted(labels - own), without(change.new, own)),
             form.kind,
             known.owners,
             rank,
-            digest_of(without(old, own)),
+            digest_of(without(change.old, own)),
             ",".join(labels & own),
             line,
         )
@@ -124,7 +117,8 @@ class Fleet:
         if len(hosts) > 1:
             blend(fields, owns)
             if len(olds) > 1:
-                fields["old_various"] = [label_of(name) for name in fields.pop("old")]
+                old = fields.pop("old")
+                fields["old_various"] = [name.removesuffix(HEX) for name in old]
         fields["hosts"] = len(hosts)
         fields["names"] = [self.names[host] for host in hosts[:max_names]]
         return SharedChange({"record": "change", **fields})

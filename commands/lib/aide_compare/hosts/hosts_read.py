@@ -4,7 +4,7 @@ from __future__ import annotations
 import errno
 import fcntl
 import os
-from collections.abc import Callable, Iterator
+from collections.abc import Callable
 from contextlib import closing
 
 from aide_compare.base.ending import Fault, Status, reason
@@ -12,10 +12,9 @@ from aide_compare.base.escapes import shown
 from aide_compare.base.files import BLOCK, open_regular
 from aide_compare.base.words import age_in_words
 from aide_compare.compare.state import State, read_state
-from aide_compare.hosts.kept_lines import KeptLines
 from aide_compare.hosts.report_values import CUT, UNREADABLE, WHOLE, Host
 from aide_compare.hosts.store import LINES, HostDirectory, check_name
-from aide_compare.lines.reader import Outline, Refused
+from aide_compare.lines.reader import ODD, Outline, Reader, Refused
 
 # What a disk says of a place that is damaged, and a file system of the network of a file that is
 # gone there.
@@ -52,33 +51,31 @@ def host_in(directory: HostDirectory, max_age: int) -> Host:
     return host_of(directory.host, state.told_status, state.error, state)
 
 
-class KeptChanges:
-    """The changes in the lines that were kept of a host: by iteration each of them, once; then how
-    many are `listed`, and what the lines are, as the `report` of a Host says it."""
-
-    def __init__(self, directory: HostDirectory, host: Host) -> None:
-        self.path = directory.file(LINES)
-        self.to_read = host.open
-        self.report = UNREADABLE
-        self.listed = 0
-
-    def __iter__(self) -> Iterator[Outline]:
-        try:
-            with open(open_regular(self.path), "rb", BLOCK) as file:
-                lines = KeptLines(file)
-                for change in lines.outlines():
-                    self.listed += 1
-                    yield change
-                if lines.to_read == self.to_read:  # Otherwise they are the lines of another run.
-                    self.report = CUT
-                    if self.listed == lines.to_read:
-                        self.report = WHOLE
-        except (Fault, Refused):
-            pass
-        except OSError as error:
-            # No room for what is read, for one, is no fault of this host.
-            if error.errno not in DAMAGED:
-                raise
+def read_changes(directory: HostDirectory, host: Host, take: Callable[[Outline], object]) -> Host:
+    """Gives each change in the lines that were kept of a host to `take`. Returns the host with what
+    the lines are, and how many changes they have."""
+    report = UNREADABLE
+    listed = 0
+    try:
+        descriptor = open_regular(directory.file(LINES))
+    except Fault:
+        return host._replace(report=report)
+    try:
+        with open(descriptor, "rb", BLOCK) as file:
+            lines = Reader(file)
+            for outline in lines.outlines():
+                take(outline)
+                listed += 1
+        # Otherwise they are the lines of another run.
+        if host.counts and host.counts._asdict() == lines.end.get("standings"):
+            report = CUT if listed < host.counts.to_read else WHOLE
+    except (Refused, RecursionError, *ODD):
+        pass
+    except OSError as error:
+        # No room for what is read, for one, is no fault of this host.
+        if error.errno not in DAMAGED:
+            raise
+    return host._replace(report=report, listed=listed)
 
 
 def unread_host(name: str, error: Fault | OSError) -> Host:
@@ -108,10 +105,7 @@ def read_host(
             return unread_host(name, error)
         if take is None or not host.differs:
             return host
-        kept = KeptChanges(directory, host)
-        for outline in kept:
-            take(outline)
-        return host._replace(report=kept.report, listed=kept.listed)
+        return read_changes(directory, host, take)
 
 
 def directory_of(name: str, store: str, seconds: int) -> HostDirectory:
