@@ -177,9 +177,6 @@ class Reader:
     """The lines of a file: the `summary` of the first one; each change as an outline, once; then
     what the last line says, as `end`, its object, and `counts`."""
 
-    format = FORMAT
-    is_proved = True  # Otherwise each value is looked at.
-
     def __init__(self, file: BinaryIO) -> None:
         self.file = file
         self.end: Fields = {}
@@ -188,8 +185,8 @@ class Reader:
         self._lines: Counter[tuple[str, str]] = Counter()  # By kind and account.
         self.number = 1
         self.summary = self._object_of(file.readline(LINE_LIMIT))
-        if self.summary.get("format") != self.format:
-            raise Refused(self.number, f"the first line is the summary, of format {self.format}")
+        if self.summary.get("format") != FORMAT:
+            raise Refused(self.number, f"the first line is the summary, of format {FORMAT}")
 
     def outlines(self) -> Iterator[Outline]:
         """The changes as far as the forms of their lines say them."""
@@ -207,7 +204,7 @@ class Reader:
                     return
                 form, path = found
                 key = key_of_path(path)
-                match_form = form.match if self.is_proved else NO_MATCH
+                match_form = form.match
             if key <= last:
                 raise Refused(self.number, "the entry is not in the order of paths")
             last = key
@@ -217,7 +214,7 @@ class Reader:
 
     def _found(self, line: bytes) -> tuple[Form, bytes] | None:
         """The form and the path of a change; None of the last line."""
-        match = self.is_proved and PLAIN.fullmatch(line)
+        match = PLAIN.fullmatch(line)
         try:
             if match:
                 return self._forms.of(line), match[1]
