@@ -8,7 +8,7 @@ from unittest import mock
 from tests.commands.mail import logging
 from tests.commands.units.calls import OTHER, ModuleTest
 
-from aide_compare.base.directories import open_directory
+from aide_compare.base.directories import names_in, open_directory
 from aide_compare.mail import sending
 
 
@@ -56,7 +56,7 @@ class SendingTest(ModuleTest):
         for name in (".b.mail", "a.mail.part", "a.mail"):
             self.write(name, b"text")
         with open_directory(self.root) as directory:
-            self.gives(["a.mail"], sending.waiting_in, directory)
+            self.gives(["a.mail"], names_in, directory, ".mail")
             with mock.patch.object(sending, "MAX_MAIL_BYTES", 4):
                 self.gives(b"text", sending.waiting_mail, directory, "a.mail")
                 self.write("b.mail", b"texts")

@@ -174,3 +174,10 @@ def open_directory(path: str | bytes, make: bool = False) -> Directory:
             end.directory.close()
             raise failure(errno.ENOTDIR)
         return end.directory
+
+
+def names_in(directory: Directory, ending: str) -> list[str]:
+    """The names of files in a directory that have this ending, in order, without hidden ones."""
+    with closed_after(os.open(".", LISTING, dir_fd=directory.fd)) as listing:
+        names = os.listdir(listing)
+    return sorted(name for name in names if name.endswith(ending) and not name.startswith("."))

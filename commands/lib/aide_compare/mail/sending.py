@@ -15,7 +15,7 @@ from collections.abc import Callable
 from contextlib import suppress
 from functools import partial
 
-from aide_compare.base.directories import LISTING, Directory, closed_after, open_directory
+from aide_compare.base.directories import Directory, closed_after, names_in, open_directory
 from aide_compare.base.ending import Fault, OSErrorAsFault, Status, say
 from aide_compare.base.escapes import encoded, shown
 from aide_compare.base.files import in_memory
@@ -28,6 +28,7 @@ MAILERS = (
     "/usr/lib/sendmail",
 )  # cron's PATH does not have their directories.
 LOG = "/dev/log"
+MAIL = ".mail"  # The ending of a message that waits.
 JOURNAL = "/run/systemd/journal/socket"
 AUTH_ALERT = 4 * 8 + 1
 MAX_ANSWER = 1 << 16
@@ -113,20 +114,13 @@ def deliver(way: Transport, message: bytes) -> None:
     raise Fault(Status.DEVICE, f"cannot send the mail: {why}; {log}")
 
 
-def waiting_in(directory: Directory) -> list[str]:
-    """The names of the messages that wait in a directory, the oldest first."""
-    with closed_after(os.open(".", LISTING, dir_fd=directory.fd)) as listing:
-        names = os.listdir(listing)
-    return sorted(name for name in names if name.endswith(".mail") and not name.startswith("."))
-
-
 def queue_transport(path: str) -> Transport:
     """A way that keeps a message in this directory for the unit that sends it."""
     with open_directory(path, make=True) as directory:
-        if len(waiting_in(directory)) >= MAX_WAITING:
+        if len(names_in(directory, MAIL)) >= MAX_WAITING:
             text = f"{MAX_WAITING} mails wait already in {shown(path)}: none is sent"
             raise Fault(Status.DEVICE, text)
-    name = f"{time.time_ns():020d}-{os.getpid()}.mail"
+    name = f"{time.time_ns():020d}-{os.getpid()}{MAIL}"
 
     def keep(message: bytes) -> None:
         replace(os.path.join(path, name), message, 0o600, "the mail that waits")
@@ -162,7 +156,7 @@ def send_all(path: str, way: Transport) -> None:
     time."""
     failed = None
     with open_directory(path, make=True) as directory:
-        for name in waiting_in(directory):
+        for name in names_in(directory, MAIL):
             try:
                 what = f"cannot send or remove the mail {shown(name)}"
                 with OSErrorAsFault(what), suppress(FileNotFoundError):  # Another run has sent it.

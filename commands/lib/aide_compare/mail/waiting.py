@@ -4,17 +4,17 @@ from __future__ import annotations
 from collections.abc import Iterator
 from contextlib import suppress
 
-from aide_compare.base.directories import open_directory
+from aide_compare.base.directories import names_in, open_directory
 from aide_compare.base.ending import Fault
 from aide_compare.base.escapes import shown
 from aide_compare.base.words import counted
-from aide_compare.mail.sending import find_mailer, waiting_in
+from aide_compare.mail.sending import MAIL, find_mailer
 
 
 def troubles(queue: str) -> Iterator[str]:
     """A line for the mails that wait in a directory, and one for sendmail if it is not there."""
     with suppress(Fault, OSError), open_directory(queue) as directory:
-        count = len(waiting_in(directory))
+        count = len(names_in(directory, MAIL))
         if count:
             yield f"{counted(count, 'mail')} that could not be sent yet: {shown(queue)}"
     try:
