@@ -77,8 +77,7 @@ class RecordedTest(CommandTest):
         self.assertEqual(got, wanted, label)
 
     def test_content(self) -> None:
-        """The content that the records have is recorded, and no other one; times and inode do not
-        matter."""
+        """What the records have is recorded, whatever its times and inode, and no other content."""
         elsewhere = Package("tool", "2", {BIN + b"other": TWO})
         conffile = Package("tool", "2", {}, conffiles={BIN + b"tool": TWO})
         gone = tool(state="deinstall ok config-files")
@@ -136,7 +135,7 @@ class RecordedTest(CommandTest):
             host.new.link(LIB + b"tool.so", target, acl="0", e2fsattrs="0")
             host.new.file(LIB + b"beside", TWO)
             files = {LIB + b"tool.so.2": TWO, LIB + b"beside": TWO}
-            host.packages.append(Package("tool", "2", files, listed=(LIB + b"tool.so",)))
+            host.packages.append(Package("tool", "2", files, listed=(LIB + b"tool.so", b"")))
             host.packages.append(Package("other", "1", {LIB + b"other": TWO}))
             host.new.link(LIB + b"y", hashlib.md5(TWO).hexdigest().encode())
             host.new.link(LIB + b"z", b"beside")
@@ -263,11 +262,11 @@ class ManyTest(CommandTest):
         names = (b"tool.so", b"bare/tool", b"tool00", b"tool01")
         for path in (b"/image", *map(LIB.__add__, names)):
             self.assertTrue(wanted[path].startswith("recorded"), (path, wanted))
-        for size, many in ((1, 0), (200, 0), (700, 99)):
-            self.set_names("changes.recorded", MAX_WANTED=size, MANY=many)
+        for size, many in ((1, 0), (1500, 0), (5000, 99)):
+            self.set_names("changes.recorded", MAX_LINES=size, MANY=many)
             self.assertEqual(standings_of(host.ask(self)[1]), wanted, size)
             self.assertEqual(host.brief(self), brief, size)
-        self.set_names("changes.recorded", MAX_WANTED=1, MAX_MEMBERS=2)
+        self.set_names("changes.recorded", MAX_LINES=1, MAX_MEMBERS=2)
         found = standings_of(host.ask(self)[1], ("package",))
         first = [path for path in found if found[path]]
         self.assertEqual(first, [b"/image", LIB + b"bare/tool"], found)

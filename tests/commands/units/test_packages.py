@@ -65,6 +65,6 @@ class PackagesTest(ModuleTest):
             with mock.patch.object(packages, name, most):
                 self.expect(f"found, {name} {most}", self.members(), found if reads else {})
         with mock.patch.object(packages, "MAX_BYTES", size - 1):
-            self.assertRaisesRegex(Fault, "has more than", self.members)
+            self.assertRaisesRegex(Fault, "have more than", self.members)
         os.unlink(self.path("dpkg/info/tool.md5sums"))
         self.gives({"tool 2": {b"/usr/bin/tool\n": ""}}, self.members)

@@ -18,7 +18,7 @@ FILE = LINK._replace(type="File")
 class RecordedTest(ModuleTest):
     def test_names(self) -> None:
         rows: list[tuple[Value, bytes]] = [("c", b"/a/c"), (b"../../c", b"/c"), ("//c/.", b"/c")]
-        for link, target in (*rows, (None, b"")):
+        for link, target in (*rows, (None, b""), ("", b"")):
             self.gives(target, target_of, LINK._replace(new={"Lname": link}))
         self.gives(b"", target_of, LINK)
 
@@ -33,9 +33,10 @@ class RecordedTest(ModuleTest):
         rows: list[tuple[str, Values, str, int, bool]] = [
             ("the same digest", {"MD5": own}, own, 0, True),
             ("another one", {"MD5": own}, other, 11, False),
-            ("read", strong, own, 11, True),
+            ("the longest one", {"SHA512": own * 4}, own * 4, 0, True),
+            ("read", strong, own, 10, True),
             ("read, another one", strong, other, 11, False),
-            ("no room", strong, own, 10, False),
+            ("no room", strong, own, 9, False),
             ("no digest", {}, own, 11, False),
             ("a weak digest", {"SHA1": digests["SHA1"]}, own, 11, False),
             ("another content", {"SHA256": digests["SHA256"][::-1]}, own, 11, False),
