@@ -7,7 +7,6 @@ reported.
 from __future__ import annotations
 
 import base64
-import hashlib
 import os
 import re
 from collections.abc import Iterator, Mapping, Sequence
@@ -16,7 +15,7 @@ from typing import NamedTuple
 from aide_compare.base.database import ABSENT, PATH_COLUMN, fields_in
 from aide_compare.base.ending import Fault, Status
 from aide_compare.base.escapes import shown
-from aide_compare.base.files import reopened, trusted_text
+from aide_compare.base.files import BLOCK, reopened, trusted_text
 from aide_compare.base.paths import escaped, unescaped
 from aide_compare.compare.unpack import Copy
 
@@ -67,13 +66,15 @@ class Exclusions(NamedTuple):
         AIDE writes the path first in the line of an entry."""
         if not self.files:
             return
-        starts = tuple(escaped(path) + b" " for path in self.files)
+        starts = (COLUMNS, *(escaped(path) + b" " for path in self.files))
         columns: list[bytes] = []
-        with open(reopened(old.fd, os.O_RDONLY), "rb") as database:
+        with open(reopened(old.fd, os.O_RDONLY), "rb", BLOCK) as database:
             for line in database:
+                if not line.startswith(starts):
+                    continue
                 if line.startswith(COLUMNS):
                     columns = fields_in(line)[1:]
-                elif line.startswith(starts) and columns[:1] == [PATH_COLUMN]:
+                elif columns[:1] == [PATH_COLUMN]:
                     entry = dict(zip(columns, fields_in(line)))
                     path = unescaped(entry[PATH_COLUMN])
                     if not is_text_of(entry, self.files[path]):
@@ -83,6 +84,8 @@ class Exclusions(NamedTuple):
 def is_text_of(entry: Mapping[bytes, bytes], text: bytes) -> bool:
     """Whether the digests of an entry are those of a text. One without a known digest says
     nothing."""
+    import hashlib  # 4 MB that a database without these files does not need.
+
     for column in DIGESTS:
         field = entry.get(column, ABSENT)
         digest = hashlib.new(column.decode(), text).digest()
