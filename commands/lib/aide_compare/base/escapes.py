@@ -10,7 +10,6 @@ controls, such as those that turn the direction of text, and what nobody sees.
 from __future__ import annotations
 
 import re
-from functools import lru_cache
 
 # Control bytes, bytes that are no UTF-8 (U+DC80 to U+DCFF), the characters of the category Cf and
 # of Default_Ignorable_Code_Point (Unicode 15), the separators of the categories Zl and Zp, and the
@@ -29,14 +28,16 @@ def _escaped(data: bytes) -> str:
     return "".join([_OCTAL[byte] for byte in data])
 
 
-@lru_cache(maxsize=None)
-def _pattern(kept: str) -> re.Pattern[str]:
-    """A character that is escaped, but for some."""
-    return re.compile(rf"[\\{_UNSEEN}]" + (f"(?<![{re.escape(kept)}])" if kept else ""))
-
-
 def _with_escapes(text: str, kept: str = "") -> str:
-    return _pattern(kept).sub(lambda match: _escaped(_bytes_of(match.group())), text)
+    """A text in which each character is escaped that needs it, but for some."""
+
+    def escape(match: re.Match[str]) -> str:
+        letter = match.group()
+        if letter in kept:
+            return letter
+        return _escaped(_bytes_of(letter))
+
+    return re.sub(rf"[\\{_UNSEEN}]", escape, text)
 
 
 def _is_plain(text: str) -> bool:
@@ -87,10 +88,10 @@ def guarded(text: str) -> str:
     backslash."""
     if _is_plain(text):
         return text
-    return _with_escapes(_bytes_of(text).decode("utf-8", "surrogateescape"), "\\")
+    return shown_lines(text, "\\")
 
 
-def shown_lines(data: str | bytes | bytearray) -> str:
+def shown_lines(data: str | bytes | bytearray, kept: str = "\\\t\n") -> str:
     """Whole lines: newlines and tabs stay, and backslashes, since the reports and error lines have
     escapes of their own."""
-    return _with_escapes(_bytes_of(data).decode("utf-8", "surrogateescape"), "\\\t\n")
+    return _with_escapes(_bytes_of(data).decode("utf-8", "surrogateescape"), kept)

@@ -33,7 +33,7 @@ TYPES = {
 }
 # An entry of a list in the long text form of acl(5); what a mask takes away of it stands behind it,
 # as getfacl prints it. A name has no byte that ends it.
-ACL_ENTRY = re.compile(
+ACL_ENTRY = (
     rb"((?:user|group|mask|other):[^\x00-\x20:,#\x7f]{0,300}:[r-][w-][x-])"
     rb"(?:[\t ]+(#effective:[r-][w-][x-]))?"
 )
@@ -89,7 +89,7 @@ def _acl_entries(text: bytes) -> list[str] | None:
     lines = text.rstrip(b"\n").split(b"\n", MAX_ACL_ENTRIES) if text else []
     entries = []
     for line in lines:
-        match = ACL_ENTRY.fullmatch(line)
+        match = re.fullmatch(ACL_ENTRY, line)
         if match is None:
             return None
         entries.append(" ".join(shown(part) for part in match.groups() if part))
