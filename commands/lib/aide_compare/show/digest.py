@@ -33,6 +33,12 @@ from (select level, owners, row_number() over (partition by level, owners, site)
     from changes where {LISTED})
 group by 1, 2
 """
+# Where most of those are that are not listed, and of the changes at some places whether they are.
+MOST = f"""
+select site, count(*) from changes where {PART} and not is_listed
+group by 1 order by 2 desc, 1 limit ?
+"""
+TURN = "update changes set is_listed = not is_listed where place = ?"
 
 # The words, in so many columns, for a site by which the changes that are not listed are counted.
 Names = Callable[[Any, int], str]
@@ -82,7 +88,7 @@ class Part(NamedTuple):
 
     severity: str
     rows: Iterator[Row]
-    rest: Iterator[str]
+    rest: list[str]
 
 
 def rooms_of(limit: int, *steps: Sequence[int]) -> list[int]:
@@ -104,7 +110,6 @@ def in_directory(key: bytes, width: int) -> str:
 
 def digest(table: Table, room: Room, names: Names) -> Iterator[Part]:
     """The parts of the open changes that there is room for."""
-    table.do("update changes set is_listed = false where is_listed")
     if room.is_of_hosts:
         parts = list(table.ask(SIZES_OF_HOSTS, room.first))
     else:
@@ -119,8 +124,9 @@ def digest(table: Table, room: Room, names: Names) -> Iterator[Part]:
         if size > lines:
             lines = max(lines - room.named, 0)
         places = chosen(table, level, owners, lines, room)
-        table.do_all("update changes set is_listed = true where place = ?", zip(places))
-        rest = rest_words(table, level, owners, room, names)
+        table.do_all(TURN, zip(places))
+        rest = list(rest_words(table, level, owners, size - len(places), room, names))
+        table.do_all(TURN, zip(places))
         yield Part(SEVERITIES[level], map(table.row, places), rest)
 
 
@@ -162,12 +168,11 @@ def chosen(table: Table, level: int, owners: int, limit: int, room: Room) -> lis
     return [*first, *more, *later][:limit]
 
 
-def rest_words(table: Table, level: int, owners: int, room: Room, names: Names) -> Iterator[str]:
+def rest_words(
+    table: Table, level: int, owners: int, left: int, room: Room, names: Names
+) -> Iterator[str]:
     """How many changes of a part are not listed, and where most of them are, in a few lines."""
-    part = f"{PART} and not is_listed"
-    (left,) = next(table.ask(f"select count(*) from changes where {part}", level, owners))
-    most = f"select site, count(*) from changes where {part} group by 1 order by 2 desc, 1 limit ?"
-    for number, (site, count) in enumerate(table.ask(most, level, owners, room.named), 1):
+    for number, (site, count) in enumerate(table.ask(MOST, level, owners, room.named), 1):
         if number < room.named or count == left:
             words = f"and {count} more "
         else:

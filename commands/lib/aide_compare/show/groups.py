@@ -54,7 +54,7 @@ def recorded_lines(table: Table, limit: int, width: int) -> Iterator[str]:
 
 def group_lines(judged: Judged, limit: int, width: int) -> list[str]:
     """The lines under their title, of at most so many packages."""
-    lines = list(recorded_lines(judged.table, limit, width))
-    if lines:
-        lines.insert(0, f"Recorded, as {judged.by} on this host says:")
-    return lines
+    if not judged.counts.recorded:
+        return []
+    title = f"Recorded, as {judged.by} on this host says:"
+    return [title, *recorded_lines(judged.table, limit, width)]
