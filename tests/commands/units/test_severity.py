@@ -191,7 +191,7 @@ def lacking(old: Side, new: Side) -> Iterator[tuple[str, Side, Side]]:
 
 
 def rank_of(path: bytes, old: Side, new: Side, table: Severity = SHIPPED_TABLE) -> int:
-    return table.rank(path, held_by(old, new))
+    return table.ranks(path.rpartition(b"/")[0], held_by(old, new))(path.rpartition(b"/")[2])
 
 
 def level_of(path: bytes, old: Side, new: Side, table: Severity = SHIPPED_TABLE) -> str:

@@ -40,7 +40,7 @@ def fields_of(letters: str = SAME, **sides: dict[str, Any]) -> dict[str, Any]:
 def weighed(forms: Forms, fields: dict[str, Any]) -> tuple[Known, int]:
     """What is known of a line by its form, and its rank."""
     known = forms.of(line_of(fields)).value(known_of)
-    return known, Severity().rank(PATH.encode(), known.held)
+    return known, Severity().ranks(b"/srv", known.held)(b"x")
 
 
 class WeighingTest(ModuleTest):

@@ -13,13 +13,16 @@ from functools import cached_property
 from itertools import islice
 
 from aide_compare.base.ending import Fault, Status
+from aide_compare.base.words import SEVERITIES, status_of_counts
 from aide_compare.changes.packages import Dpkg, NamedPackages, Rpm, named_packages
 from aide_compare.changes.recorded import Matcher
-from aide_compare.changes.severity import Severity
-from aide_compare.changes.table import Marks, Row, Table, Values
+from aide_compare.changes.severity import RANKS, Severity
+from aide_compare.changes.table import RECORDED, Marks, Row, Table, Values
 from aide_compare.changes.weighing import directory_of, known_of
 from aide_compare.lines.change import Change, Counts, Standing, change_of
-from aide_compare.lines.reader import Forms, Reader
+from aide_compare.lines.reader import Form, Forms, Reader
+
+RECORDED_LEVELS = f"select level, count(*) from changes where {RECORDED} group by 1"
 
 
 class Judged:
@@ -34,6 +37,7 @@ class Judged:
         self.named: NamedPackages = {}
         self.by = ""
         self.silent: Counter[str] = Counter()
+        self.ranks: Counter[tuple[str, int]] = Counter()  # Of the others, by their kinds, too.
         # How many changes the lines of the list leave out, by their numbers.
         self.left_out: Counter[int] = Counter()
         self.table = Table()
@@ -41,35 +45,56 @@ class Judged:
         self.changes = reader.counts.changes  # How many there are.
 
     def _values(self, reader: Reader) -> Iterator[Values]:
-        """Yields the values of the changes that are not silent, and counts the others."""
+        """Yields the values of the changes that are not silent, and counts all."""
         severity = Severity()
         line_at = self.begin
+        last: Form | None = None
+        above = b""
         for form, path, key, line in reader.outlines():
             size = len(line)
-            silent = form.silent(path)
-            if silent is None:
-                known = form.value(known_of)
+            silent = form.account and form.silent(path)
+            if silent:
+                self.silent[silent.key] += 1
+                if form.left_out:
+                    self.left_out[form.left_out] += 1
+            else:
+                directory, _, name = path.rpartition(b"/")
+                # Most changes are in the directory of the one before. The root is in none.
+                if form is not last or directory != above or not directory:
+                    last = form
+                    above = directory
+                    known = form.value(known_of)
+                    rank_of = severity.ranks(directory, known.held)
+                    site = bytearray(directory_of(key))
+                rank = rank_of(name)
+                self.ranks[form.kind, rank] += 1
                 yield (
                     bytearray(key),
-                    bytearray(directory_of(key)),
+                    site,
                     form.kind,
                     known.owners,
-                    severity.rank(path, known.held),
+                    rank,
                     known.party,
                     known.asked,
                     line_at,
                     size,
                 )
-            else:
-                self.silent[silent.key] += 1
-                if form.left_out:
-                    self.left_out[form.left_out] += 1
             line_at += size
 
     @cached_property
     def counts(self) -> Counts:
         """The counts of all. They are asked for when the changes are grouped."""
-        counts = self.table.counts()._replace(**self.silent)
+        numbers = self.silent.copy()
+        numbers["open"] = len(self.table)
+        for (_, rank), size in self.ranks.items():
+            numbers[f"open_{SEVERITIES[rank // RANKS]}"] += size
+        for level, size in self.table.ask(RECORDED_LEVELS):
+            for name in ("", f"_{SEVERITIES[level]}"):
+                numbers[f"open{name}"] -= size
+                numbers[f"recorded{name}"] += size
+        kinds = {kind for kind, _ in self.ranks}
+        status = status_of_counts(("added" in kinds, "removed" in kinds, "changed" in kinds))
+        counts = Counts(**numbers, told_status=status)
         if not counts.fits(self.changes):
             raise Fault(Status.DEVICE, "the counts of the standings are not those of the changes")
         return counts
@@ -88,22 +113,24 @@ class Judged:
     def lines(self) -> Iterator[tuple[bytes, Marks]]:
         """Yields the lines of all changes in the order of paths, with their marks."""
         forms = Forms()
-        others = self.table.marks()
-        next_at, marks = next(others)
+        nothing = 0, 0, Marks("")
+        others = self.table.marks(order="place")
+        next_at, _, marks = next(others, nothing)
         self.file.seek(self.begin)
         line_at = self.begin
         for line in islice(self.file, self.changes):
             if line_at == next_at:
                 yield line, marks
-                next_at, marks = next(others)
+                next_at, _, marks = next(others, nothing)
             else:
                 account = forms.of(line).account or Standing.OPEN
                 yield line, Marks(account.value)
             line_at += len(line)
 
-    def line(self, row: Row) -> bytes:
-        return os.pread(self.file.fileno(), row.line_size, row.line_at)
+    def line(self, at: int, size: int) -> bytes:
+        """The line of a change by where it begins."""
+        return os.pread(self.file.fileno(), size, at)
 
     def read(self, row: Row) -> Change:
         """The values of a change, as its line has them."""
-        return change_of(json.loads(self.line(row)))
+        return change_of(json.loads(self.line(row.line_at, row.line_size)))

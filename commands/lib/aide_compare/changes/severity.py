@@ -167,14 +167,13 @@ def held_by(old: Side, new: Side) -> Held:
 BITS = {word: 1 << place for place, word in enumerate(TESTS)}
 
 
-class Row:
+class Row(NamedTuple):
     """One pattern of a line: the rank, by the level and the line's place in the table, and the bits
     of the tests, which all have to hold."""
 
-    def __init__(self, rank: int, tests: int, pattern: Pattern) -> None:
-        self.rank = rank
-        self.tests = tests
-        self.pattern = pattern
+    rank: int
+    tests: int
+    pattern: Pattern
 
 
 class Inside:
@@ -201,6 +200,14 @@ class Inside:
             for row, places in self.rows
             if not row.tests & ~held and len(row.pattern.pieces) - 1 in places
         ]
+
+
+def first_rank(tests: list[tuple[Test | None, int]], name: bytes) -> int:
+    """The rank by the first of these tests that holds for a name."""
+    for test, rank in tests:
+        if test is None or test(name):
+            return rank
+    return OTHER_RANK
 
 
 class Severity:
@@ -231,26 +238,25 @@ class Severity:
             rank = SEVERITIES.index(level) * RANKS + number
             yield Row(rank, tests, pattern_of(part, place))
 
-    def rank(self, path: bytes, held: Held) -> int:
-        """How much a change of the entry with this path matters, by what its rights mean.
+    def ranks(self, directory: bytes, held: Held) -> Callable[[bytes], int]:
+        """What says by the name of an entry in this directory how much a change of it matters, by
+        what its rights mean.
 
         Who has other rights on a directory than before has them on the programs in it, so the
         greater of both counts.
         """
-        if len(path) > MAX_PATH:
-            return OTHER_RANK
-        directory, _, piece = path.rpartition(b"/")
-        rank = self._first(directory, held.tests, piece)
-        if not held.opens_programs:
-            return rank
-        return min(rank, self._first(path, held_by(PROGRAM, PROGRAM).tests, b"*"))
+        tests = self._in(directory, held.tests)
 
-    def _first(self, directory: bytes, held: int, piece: bytes) -> int:
-        """The rank by the first row that means an entry of a directory."""
-        for test, rank in self._in(directory, held):
-            if test is None or test(piece):
+        def rank_of(name: bytes) -> int:
+            if len(directory + name) >= MAX_PATH:
+                return OTHER_RANK
+            rank = first_rank(tests, name)
+            if not held.opens_programs:
                 return rank
-        return OTHER_RANK
+            programs = self._in(directory + b"/" + name, held_by(PROGRAM, PROGRAM).tests)
+            return min(rank, first_rank(programs, b"*"))
+
+        return rank_of
 
     @lru_cache(maxsize=64)
     def _in(self, directory: bytes, held: int) -> list[tuple[Test | None, int]]:

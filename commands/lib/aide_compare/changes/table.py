@@ -2,7 +2,6 @@
 is a question to it, in the one order of ORDER."""
 from __future__ import annotations
 
-from collections import Counter
 from collections.abc import Iterable, Iterator
 from functools import lru_cache
 from itertools import chain, islice
@@ -11,9 +10,8 @@ from typing import NamedTuple
 from aide_compare.base.ending import Fault, Status
 from aide_compare.base.paths import key_of_path, path_of
 from aide_compare.base.rows import Rows
-from aide_compare.base.words import SEVERITIES, status_of_counts
+from aide_compare.base.words import SEVERITIES
 from aide_compare.changes.severity import RANKS
-from aide_compare.lines.change import Counts
 from aide_compare.lines.reader import embedded
 
 # A table of more rows is refused.
@@ -65,25 +63,14 @@ class Row(NamedTuple):
 
     place: int  # In the order of paths.
     path_key: bytes
-    site: bytes  # The key of its directory; the number of a host, of the changes of many.
     kind: str
     level: int  # The place of its severity in SEVERITIES.
     line_at: int  # Where its line begins.
     line_size: int
-    standing: str
-    package: str  # Its name and version, of a recorded change.
 
     @property
     def path(self) -> bytes:
         return path_of(self.path_key)
-
-    @property
-    def severity(self) -> str:
-        return SEVERITIES[self.level]
-
-    @property
-    def marks(self) -> Marks:
-        return Marks(self.standing, self.severity, self.package)
 
 
 COLUMNS = ", ".join(Row._fields)
@@ -112,12 +99,14 @@ class Table(Rows):
         question = f"select {COLUMNS} from changes where {condition} order by {order}"
         return map(Row._make, self.ask(question, *values))
 
-    def marks(self) -> Iterator[tuple[int, Marks]]:
-        """Yields where the lines of all begin, and their marks, in the order of paths; then 0."""
-        question = "select line_at, standing, level, package from changes order by place"
-        for line_at, standing, level, package in self.ask(question):
-            yield line_at, Marks(standing, SEVERITIES[level], package)
-        yield 0, Marks("")
+    def marks(
+        self, condition: str = "true", order: str = ORDER
+    ) -> Iterator[tuple[int, int, Marks]]:
+        """Yields where lines begin, their sizes and their marks, in an order."""
+        columns = "line_at, line_size, standing, level, package"
+        question = f"select {columns} from changes where {condition} order by {order}"
+        for line_at, line_size, standing, level, package in self.ask(question):
+            yield line_at, line_size, Marks(standing, SEVERITIES[level], package)
 
     def row(self, place: int) -> Row:
         return next(self.rows("place = ?", place))
@@ -135,15 +124,3 @@ class Table(Rows):
     def below(self, directory: bytes) -> Iterator[Row]:
         """The changes in a directory, in the order of paths."""
         return self.rows("site = ?", key_of_path(directory), order="place")
-
-    def counts(self) -> Counts:
-        """The Counts of all."""
-        numbers: Counter[str] = Counter()
-        kinds: Counter[str] = Counter()
-        question = "select standing, level, kind, count(*) from changes group by 1, 2, 3"
-        for standing, level, kind, size in self.ask(question):
-            numbers[standing] += size
-            numbers[f"{standing}_{SEVERITIES[level]}"] += size
-            kinds[kind] += size
-        status = status_of_counts((kinds["added"], kinds["removed"], kinds["changed"]))
-        return Counts(**numbers, told_status=status)

@@ -9,7 +9,7 @@ import hashlib
 import json
 from collections.abc import Iterable, Sequence
 
-from aide_compare.base.words import SIDES
+from aide_compare.base.words import SEVERITIES, SIDES
 from aide_compare.changes.severity import RANKS, Severity
 from aide_compare.changes.table import Row, Table
 from aide_compare.changes.weighing import known_of
@@ -73,7 +73,8 @@ class Fleet:
         """Takes a change of the host with this number."""
         form, path, key, line = outline
         known = form.value(known_of)
-        rank = self.severity.rank(path, known.held)
+        directory, _, name = path.rpartition(b"/")
+        rank = self.severity.ranks(directory, known.held)(name)
         change = change_of(json.loads(line))
         own = OWN
         if change.type == "Directory":
@@ -113,7 +114,7 @@ class Fleet:
             text = line or text
         whole = differing(json.loads(text))
         fields: Fields = {name: value for name, value in whole.items() if name in MEMBERS}
-        fields["severity"] = row.severity
+        fields["severity"] = SEVERITIES[row.level]
         if len(hosts) > 1:
             blend(fields, owns)
             if len(olds) > 1:

@@ -246,8 +246,8 @@ class Rows:
 def lines_in_order(judged: Judged) -> Iterator[tuple[bytes, Marks]]:
     """The lines of all changes with their marks, those that are read first before the others."""
     table = judged.table
-    for row in chain(table.rows(LISTED), table.rows(RECORDED, order=BY_PACKAGE)):
-        yield judged.line(row), row.marks
+    for line_at, size, marks in chain(table.marks(LISTED), table.marks(RECORDED, BY_PACKAGE)):
+        yield judged.line(line_at, size), marks
     if judged.counts.silent:
         for line, marks in judged.lines():
             if not marks.severity:
