@@ -42,8 +42,7 @@ if hasattr(library, "begin"):
 
 
 class Forked:
-    """A command in the directory of a test, with these variables of the environment from its start
-    on."""
+    """A command in the directory of a test, which starts with these variables."""
 
     def __init__(self, sandbox: CommandTest, tool: str, **environment: str) -> None:
         self.sandbox = sandbox

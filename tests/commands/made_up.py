@@ -98,8 +98,7 @@ class Night:
 
 
 class Package:
-    """A package of dpkg's records: its files and conffiles by path, and other paths that it
-    lists."""
+    """A package of dpkg's records: its files and conffiles by path, and its other paths."""
 
     def __init__(
         self,
@@ -160,15 +159,13 @@ class Host:
         return files
 
     def write(self, sandbox: CommandTest) -> None:
-        """Writes both databases, and dpkg's records where the commands of the sandbox look for
-        them."""
+        """Writes both databases, and dpkg's records where the sandbox has them."""
         sandbox.write("host-old.db", self.old.database())
         sandbox.write("host-new.db", self.new.database())
         write_records(sandbox, self.records() if self.packages else {})
 
     def ask(self, sandbox: CommandTest, *words: str) -> tuple[Answer, list[dict[str, Any]]]:
-        """What aide-compare json says of the two nights: the answer, and the objects of its
-        lines."""
+        """The answer of aide-compare json for the two nights, and the objects of its lines."""
         self.write(sandbox)
         answer = sandbox.call("aide-compare json", *words, "host-old.db", "host-new.db")
         return answer, objects_of(answer)

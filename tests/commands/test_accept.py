@@ -66,8 +66,7 @@ class AcceptTest(AcceptingTest):
             self.answered(18, None, told, TOOL, "--sha256", DIGEST, *FILES, stdout=full)
 
     def test_places(self) -> None:
-        """What is no regular file is no baseline, and a folder where everybody can write holds
-        none."""
+        """No baseline is what is no regular file, or in a folder where everybody can write."""
         makers: list[tuple[bytes, Callable[[str], object]]] = [
             (b"a link", lambda path: os.symlink("aide.db.new", path)),
             (b"a FIFO", os.mkfifo),
@@ -93,8 +92,7 @@ class AcceptTest(AcceptingTest):
         self.refuses(18, said)
 
     def test_full_disk(self) -> None:
-        """A baseline that cannot be replaced for want of room stays, and nothing is left beside
-        it."""
+        """A baseline that cannot be replaced for want of room stays, alone."""
         shutil.rmtree(self.path("base"))
         os.mkdir(self.path("base"))
         with self.mounted("base", "-t", "tmpfs", "-o", "size=64k,mode=755", "none") as is_small:

@@ -161,8 +161,7 @@ class FloodsTest(CommandTest):
         self.assertLessEqual({path.decode() for path in ROOTS}, names)
 
     def test_unjudged(self) -> None:
-        """If nobody can judge the changes, what changed and went comes first, and each folder has a
-        share."""
+        """If nobody can judge them, what changed or went comes first; each folder has a share."""
         mail.prepare(self)
         long = b"/home/anna/" + b"n" * 200
         self.write_night([entry(long + b"%04d" % number, owner=1000) for number in range(5000)])

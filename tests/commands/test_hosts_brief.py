@@ -36,8 +36,7 @@ class HostsBriefTest(CommandTest):
             self.assertRegex(text, r"(?m)^  and [\d,]+ more on evil1$", "whose are left out")
 
     def test_shape(self) -> None:
-        """At most 80 lines of 80 columns, whatever hosts there are and however long the names
-        are."""
+        """At most 80 lines of 80 columns, whatever hosts there are, with names of any length."""
         hosts = Hosts(self)
         paths = [b"/d%02d/" % number + b"n" * (3 * number) for number in range(90)]
         new = database(*(line(path, b"x", perm=b"104755") for path in paths))

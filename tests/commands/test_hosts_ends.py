@@ -63,8 +63,7 @@ def measured(fleet: Fleet, *words: str) -> tuple[int, str, int]:
 @slow
 class HostsEndsTest(CommandTest):
     def test_many_hosts(self) -> None:
-        """300 hosts with 200 changes each: few open files, and no more memory than 30 hosts
-        take."""
+        """300 hosts with 200 changes each: few open files, and the memory of 30 hosts."""
         hosts = Hosts(self)
         new = database(*(line(b"/n%04d" % number, b"%d" % number) for number in range(200)))
         hosts.compared({"first": (database(), new)})

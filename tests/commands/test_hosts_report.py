@@ -261,8 +261,7 @@ class HostsReportTest(CommandTest):
         return self.read("mail").decode()
 
     def test_mail(self) -> None:
-        """One mail for all hosts; none without differences; bounded; an error if it cannot be
-        sent."""
+        """One mail for all hosts, bounded; none without differences; an error if it fails."""
         hosts = Hosts(self)
         self.stub("sendmail", 'cat > "%s"' % self.path("mail"))
         hosts.compared({"calm": (OLD, OLD)})

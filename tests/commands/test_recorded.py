@@ -94,8 +94,7 @@ class RecordedTest(CommandTest):
             self.check(label, host, {BIN + b"tool": want})
 
     def test_new(self) -> None:
-        """A new file or directory is recorded only if it is root's alone, and gives nobody a
-        right."""
+        """A new file or directory is recorded only if it is root's and gives nobody a right."""
         rows: dict[str, tuple[dict[str, Any], str]] = {
             "root's": ({}, RECORDED),
             "another user's": ({"uid": 33}, OPEN),

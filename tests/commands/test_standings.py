@@ -104,8 +104,7 @@ def is_mailed(sandbox: CommandTest, host: Host, *words: str) -> bool:
 
 class StandingsTest(mail.MailTest):
     def test_places(self) -> None:
-        """The brief, the state and standard error say the same; the report is what it is without
-        them."""
+        """The brief, the state and standard error say the same; the report has none of it."""
         prepare(self)
         plain = self.call(TOOL, "--report", "o.db", "n.db")
         answer = self.call(TOOL, "--report", "--state", "state", "o.db", "n.db")

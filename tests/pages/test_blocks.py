@@ -218,8 +218,7 @@ class WordsTest(unittest.TestCase):
                         self.assertIn(piece.strip(" :"), text)
 
     def test_options(self) -> None:
-        """The options of the commands and those of their pages are the same, and each is in some
-        test."""
+        """Commands and their pages have the same options, and each is in some test."""
         tests = glob.glob(os.path.join(TOP, "tests", "**", "*.py"), recursive=True)
         tried = set(re.findall(r"--[a-z][\w-]*", "".join(map(read, tests))))
         in_each = {"-h", "--help", "--version"}

@@ -42,8 +42,7 @@ class SendingTest(ModuleTest):
         self.assertEqual(lines, [b"<33>aide-compare mail: %s..." % (b"x" * 800)])
 
     def test_no_process(self) -> None:
-        """A machine that has no process left for the mail: the system log has a line all the
-        same."""
+        """The system log has a line also if no process is left for the mail."""
         full = mock.Mock(side_effect=OSError(24, "Too many open files"))
         said = "nothing can be started to send it: Too many open files; the system log has a line"
         with mock.patch.object(sending, "LOG", self.path("log")), logging(self) as lines:

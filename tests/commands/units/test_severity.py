@@ -255,8 +255,7 @@ class SeverityTest(ModuleTest):
         self.assertEqual(missing, [])
 
     def test_removed(self) -> None:
-        """A certificate of an authority, or a package, that went gives nobody a right; another one
-        does."""
+        """A certificate of an authority, or a package, that went gives nobody a right."""
         for path in REMOVED:
             self.expect("a removed one", level_of(path, entry(FILE), None), "low")
             self.expect("an added one", level_of(path, None, entry(FILE)), "high")
@@ -269,8 +268,7 @@ class SeverityTest(ModuleTest):
             self.expect(f"whose change {mode:o} is", found, wanted)
 
     def test_order(self) -> None:
-        """Rights come first, then what logs in, starts or loads code, then programs, then all
-        else."""
+        """Rights come first, then what logs in, starts or loads code, then programs."""
         ranks = [
             rank_of(b"/srv/x", None, entry(FILE, capabilities=SETUID)),
             rank_of(b"/etc/passwd", entry(FILE), entry(FILE)),
