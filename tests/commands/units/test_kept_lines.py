@@ -14,7 +14,7 @@ from tests.oracle.database import LINE_LIMIT
 
 from aide_compare.base.ending import Fault
 from aide_compare.base.files import in_memory
-from aide_compare.base.paths import key_of_path
+from aide_compare.base.paths import key_of_path, path_of
 from aide_compare.changes.judged import Judged
 from aide_compare.compare.state import State
 from aide_compare.hosts import kept_lines
@@ -110,6 +110,13 @@ class KeptLinesTest(ModuleTest):
         self.assertEqual(judged.left_out, {2: 1, 3: 2})
         counts = judged.counts
         self.assertEqual((counts.same, counts.trusted, counts.left_out, counts.open), (1, 1, 3, 3))
+
+    def test_sites(self) -> None:
+        """Each change is in its own directory, also behind others of the same form."""
+        paths = ("/", "/srv", "/srv/a", "/srv/b", "/usr")
+        table = Judged(reader_over(stream_of(*map(fields_of, paths)))).table
+        sites = [path_of(site) for (site,) in table.ask("select site from changes order by place")]
+        self.assertEqual(sites, [b"", b"/", b"/srv", b"/srv", b"/"])
 
     def test_proved(self) -> None:
         """Most lines of aide_lines have the form of the one before. Each has its own path, and the

@@ -4,6 +4,7 @@ from __future__ import annotations
 import base64
 import os
 import re
+import tracemalloc
 from collections.abc import Iterator
 from typing import Any
 from unittest import mock
@@ -286,6 +287,14 @@ class SeverityTest(ModuleTest):
             path = b"/etc/cron.d/".ljust(size, b"x")
             level = level_of(path, None, entry(FILE))
             self.expect(f"the level of a path of {size} bytes", level, wanted)
+
+    def test_long_paths(self) -> None:
+        """Directories that no file of Linux can be in take no memory, however many a host has."""
+        tracemalloc.start()
+        self.addCleanup(tracemalloc.stop)
+        for number in range(64):
+            level_of(b"/%d%b/x" % (number, b"/a" * (1 << 15)), None, entry(FILE))
+        self.assertLess(tracemalloc.get_traced_memory()[0], 1 << 20)
 
     def test_tables(self) -> None:
         """Another table, those that are no tables, and a shipped one that is missing."""

@@ -245,7 +245,8 @@ class Severity:
         Who has other rights on a directory than before has them on the programs in it, so the
         greater of both counts.
         """
-        tests = self._in(directory, held.tests)
+        # No longer path has a row, so it is not kept: a host can have any number of them.
+        tests = self._in(directory[:MAX_PATH], held.tests)
 
         def rank_of(name: bytes) -> int:
             if len(directory + name) >= MAX_PATH:
