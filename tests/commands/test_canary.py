@@ -96,8 +96,7 @@ class CanaryTest(CommandTest):
         self.assertIn("\nopen=2\n", hosts.state("www2"))
 
     def test_failed(self) -> None:
-        """A canary that cannot be compared, or is late, silences nothing, and that is said
-        first."""
+        """A canary that cannot be compared, or is late, silences nothing. That is said first."""
         hosts = self.fleet("www3")
         sound = self.read("remote/www1")
         self.write("remote/www1", b"")

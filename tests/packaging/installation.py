@@ -45,8 +45,7 @@ class InstallTest(ScratchTest):
         self.plain_path = self.make_plain_path()
 
     def copied_programs(self, program: str, folder: str, name: str) -> str:
-        """The path of a copy of the program in a new folder, with the program of lines beside
-        it."""
+        """The path of a copy of the program in a new folder, where that of lines is too."""
         os.mkdir(self.path(folder))
         lines = name.replace("aide", "aide_lines")
         for source, target in ((program, name), (lines_program_of(program), lines)):

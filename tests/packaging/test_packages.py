@@ -35,8 +35,7 @@ CONFIGURATION = {
 
 
 def make(trial: InstallTest, name: str, **more: Any) -> tuple[Answer, dict[str, bytes]]:
-    """Runs packaging/make_package into a new folder: its status and outputs, and the files
-    there."""
+    """Runs packaging/make_package into a new folder: status, outputs, and the files there."""
     script = os.path.join(trial.source, "packaging", "make_package")
     words = ["sh", script, "--program", trial.program, "--output", trial.path(name)]
     done = trial.run_words(words, **{"cwd": trial.root, **more})

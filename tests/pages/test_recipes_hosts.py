@@ -102,8 +102,7 @@ class HostsTest(RecipesTest):
         self.assertRegex(mail, r"(?m)^  (?:other \+1)? +added +/a é: -rw-r--r-- 5 bytes$")
 
     def test_at_once(self) -> None:
-        """Three runs over the same hosts at once: each has its lines, and the databases are
-        whole."""
+        """Three runs over the same hosts at once: each has its lines; the databases are whole."""
         self.put_hosts()
         self.write("/tmp/three", "same\nother\nzipped\n")
         words = ["aide-compare", "hosts", "compare", "--jobs", "3", self.path("/tmp/three")]

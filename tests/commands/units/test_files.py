@@ -107,8 +107,7 @@ class FilesTest(PlacesTest):
                 self.fails(18, "more follows", copied, self.write("db", packed))
 
     def check_pipes(self, text: bytes) -> None:
-        """A pipe may give its first byte alone. Of these each read gives what one write has put
-        in."""
+        """A pipe may give its first byte alone. Here each read gives what one write put in."""
         for packed in (text, gzip.compress(text)):
             reading, writing = os.pipe2(os.O_DIRECT)
             os.write(writing, packed[:1])
