@@ -1,5 +1,5 @@
-"""Many hosts beside a canary: what changed there too is silent on the others, and is reported on the
-canary. If it fails, the others are compared all the same."""
+"""Many hosts beside a canary: what changed there too is silent on the others, and is reported on
+the canary. If it fails, the others are compared all the same."""
 from __future__ import annotations
 
 import os
@@ -84,8 +84,8 @@ class CanaryTest(CommandTest):
         self.assertTrue(text.startswith("aide on 4 hosts: 4 differ"), "no note without a canary")
 
     def check_failed(self, hosts: Hosts, cause: str, *words: str) -> None:
-        """The canary was not used: the others were compared, nothing is silent, and the report says so
-        first."""
+        """The canary was not used: the others were compared, nothing is silent, and the report says
+        so first."""
         note = f"canary www1 was not used, so the others were compared without it: {cause}"
         lines = self.compared(hosts, *words, "--canary", "www1")
         self.assertTrue(lines[1].startswith(note), lines)

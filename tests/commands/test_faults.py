@@ -30,7 +30,7 @@ def running(word: bytes) -> list[int]:
 
 class FaultsTest(CommandTest):
     def put_away(self, program: str) -> str:
-        """Moves a program of the sandbox, which then has none with its name. Returns where it is."""
+        """Moves a program of the sandbox, which then has none of its name. Returns its path."""
         away = program + ".away"
         os.rename(program, away)
         return away

@@ -60,8 +60,8 @@ class Fleet(Hosts):
             self.put(host, database(self.next_number(), host in upgraded, more), None)
 
     def night(self, *words: str) -> dict[str, int]:
-        """Compares all hosts beside the canary. Returns how many changes are open on which hosts, as
-        the lines and the report say."""
+        """Compares all hosts beside the canary. Returns how many changes are open on which hosts,
+        as the lines and the report say."""
         hosts = self.sandbox.path("hosts")
         said = self.compare("--canary", CANARY, *words, hosts)
         self.sandbox.assertLessEqual(said.status, 7, said)

@@ -41,7 +41,7 @@ class FrontTest(CommandTest):
         self.refused(18, b"no host is in none: aide-compare hosts add adds one", *compare, "none")
 
     def test_help(self) -> None:
-        """The help fits one screen, and has each subcommand, whose own help has the words of all."""
+        """The help fits one screen, and has each subcommand; the help of that has the words."""
         names = [b"  %s " % word.encode() for word in SUBCOMMANDS + ["hosts"]]
         text = self.answered(0, names, b"", TOOL, "--help").output
         lines = text.decode().splitlines()
@@ -63,7 +63,7 @@ class FrontTest(CommandTest):
             self.assertLessEqual(max(map(len, given.output_text.splitlines())), 80, words)
 
     def test_misspelt(self) -> None:
-        """What is no subcommand ends with 15, and so does what is no option; nothing is compared."""
+        """What is no subcommand, or no option, ends with 15; nothing is compared."""
         for words, near in (
             ("jsno", b"name both databases, OLD and NEW, or none\n"),
             ("stauts --max-age=1h", b"try: aide-compare compare --help\n"),

@@ -31,8 +31,8 @@ class HostsQuietTest(CommandTest):
         return fleet
 
     def test_idle(self) -> None:
-        """A night on which only logs grew: without a file of paths all hosts differ, with one no line
-        is printed."""
+        """A night on which only logs grew: without a file of paths all hosts differ, with one no
+        line is printed."""
         fleet = self.prepare(idle(5), idle(9))
         said = fleet.compare(self.hosts)
         self.assertEqual(said.status, 4, said)
@@ -73,8 +73,8 @@ class HostsQuietTest(CommandTest):
         self.assertEqual(said.status, 4)
 
     def test_causes(self) -> None:
-        """A host that is down: a later comparison without a fetch does not lose the cause, and is no
-        comparison of today."""
+        """A host that is down: a later comparison without a fetch does not lose the cause, and is
+        no comparison of today."""
         fleet = self.prepare(OLD, NEW)
         cause = "ssh: connect to host h01 port 22: Connection refused (ssh ended with 255)"
         for had_one in (False, True):

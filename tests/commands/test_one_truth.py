@@ -115,7 +115,7 @@ class OneTruthTest(ArchiveCase):
         self.assertIn(b"trusted changed ", shown.output)
 
     def test_without_archive(self) -> None:
-        """If nothing can be made of the archive, all is told. The job of cron has the same words."""
+        """If nothing can be made of the archive, all is told, by the job of cron too."""
         job = read("contrib/cron/aide-compare.cron.daily").replace("\\\n", "")
         job = job.replace("$directory", "/var/lib/aide-compare/daily").replace('"', "")
         words = started("aide/signed.conf", "ExecStartPre")[1:]

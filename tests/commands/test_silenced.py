@@ -119,8 +119,8 @@ class SilencedTest(mail.MailTest):
             self.names_all(label, host, (path,))
 
     def test_swallowed(self) -> None:
-        """Scripts of dpkg and what they make, changed on a night of upgrades, were only counted: the
-        first lines of a large upgrade differed in numbers alone."""
+        """Scripts of dpkg and what they make, changed on a night of upgrades, were only counted:
+        the first lines of a large upgrade differed in numbers alone."""
         quiet = self.first_lines(upgrade_night(35))
         host = with_marks(upgrade_night(35))
         self.names_all("a large upgrade", host, SWALLOWED)

@@ -1,5 +1,5 @@
-"""Tries what both built programs make of each attribute of the table in oracle/attributes.py, beside
-the definitions: in the lines of JSON, and in the details and the letters of a report."""
+"""Tries what both built programs make of each attribute of the table in oracle/attributes.py,
+beside the definitions: in the lines of JSON, and in the details and the letters of a report."""
 from __future__ import annotations
 
 import base64

@@ -5,8 +5,8 @@ A library that is loaded before the C library (fail_call.c) makes the n-th call 
 nothing or move half of its bytes, for every n. All later calls work again. So a failure that the
 program ignores, or a call that it makes once more, shows in its answer. The right answer to each
 run is exact: which file could not be opened, in which line of which database reading failed, and
-which bytes had gone out before. An undisturbed run closes all that it opens. The program that writes
-lines of JSON is tried over a trusted pair too.
+which bytes had gone out before. An undisturbed run closes all that it opens. The program that
+writes lines of JSON is tried over a trusted pair too.
 """
 from __future__ import annotations
 

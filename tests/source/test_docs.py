@@ -55,7 +55,7 @@ def read_text(name: str) -> str:
 
 
 def specs_of(crate: str) -> set[str]:
-    """The files of a crate's specs/, by their names in imports, but for those that only list others."""
+    """The files of a crate's specs/ by their names in imports, without mere lists of others."""
     folder = os.path.join(TOP, "crates", crate, "specs")
     paths = glob.glob(os.path.join(folder, "**", "*.antt"), recursive=True)
     names = {os.path.relpath(path, folder)[: -len(".antt")].replace(os.sep, ".") for path in paths}
@@ -94,7 +94,7 @@ class Docs(unittest.TestCase):
                 self.assertTrue("://" in target or os.path.exists(path), f"{page}: {target}")
 
     def test_files_that_are_named_exist(self) -> None:
-        """By their path or the end of it. Built files, and names with NAME in them, are left out."""
+        """By their path or the end of it, without built files, and names with NAME in them."""
         for page, text in self.pages.items():
             plain = re.sub(r"```.*?```", "", text, flags=re.S)
             for name in sorted(set(NAMED.findall(plain)) | set(BELOW.findall(plain))):
@@ -153,7 +153,7 @@ class Docs(unittest.TestCase):
             self.assertEqual(named - promised_by(call, sources[call]), set(), call)
 
     def test_crates_that_each_crate_uses(self) -> None:
-        """What PROVED says a crate uses is what crates.txt lists. `the crates below` need no names."""
+        """PROVED says what a crate uses as crates.txt does. `the crates below` need no names."""
         uses = libraries()
         parts = re.split(r"\n## `(\w+)`.*\n", self.pages["docs/PROVED.md"])
         for crate, part in zip(parts[1::2], parts[2::2]):

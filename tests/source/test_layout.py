@@ -1,7 +1,7 @@
 """What `rt fmt` leaves as it is in each crate: cycles of modules, and long lines.
 
-A line of specs/ has at most 100 characters, a line of comment at most 120, and an import or a line of
-proofs/ at most 140.
+A line of specs/ has at most 100 characters, a line of comment at most 120, and an import or a line
+of proofs/ at most 140.
 """
 from __future__ import annotations
 
@@ -74,7 +74,7 @@ def longest(modules: dict[Module, str], path: Module) -> Module:
 
 
 def uses_in(crate: pathlib.Path) -> Graph:
-    """Which modules of a crate each of them uses, by their `use crate::` and `use super::` lines."""
+    """Which modules of a crate each of them uses, by the lines of their `use` of these."""
     source = crate / "src"
     texts = {file: file.read_text(encoding="utf-8") for file in source.rglob("*.rt")}
     return imports_of({module_of(source, file): text for file, text in texts.items()})

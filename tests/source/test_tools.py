@@ -1,9 +1,9 @@
 """Each script in Python of this repository says by --help what it does, and does nothing before it
 has read its arguments.
 
-It prints how it is called, as argparse says it, and all of its own text, and ends with 0. It refuses
-an option that it does not have, with a status that is neither 0 nor 1. The commands in commands/
-have trials of their own.
+It prints how it is called, as argparse says it, and all of its own text, and ends with 0. It
+refuses an option that it does not have, with a status that is neither 0 nor 1. The commands in
+commands/ have trials of their own.
 """
 from __future__ import annotations
 

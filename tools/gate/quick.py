@@ -3,8 +3,8 @@
 Changed is what differs from --since (origin/main), and what git does not know yet. A changed module
 is tried by the tests that import it or start a command that runs it. With --all every test runs
 that proves nothing and takes no minutes. The tests run the program of AIDE_PROGRAM, or the last one
-that was proved here, or else the unproved one of `tools/build_unproved`. The last line is 'N passed,
-M failed'. This is no gate: only `tools/test` proves what it runs.
+that was proved here, or else the unproved one of `tools/build_unproved`. The last line is 'N
+passed, M failed'. This is no gate: only `tools/test` proves what it runs.
 """
 from __future__ import annotations
 

@@ -3,11 +3,11 @@ docs/HEADLINE_JSON.md with their definitions as they are now: the headline of th
 lines of JSON say of the databases, what a list leaves out, and what the call that writes lines
 promises.
 
-The prose is that of the pages. What stands in blocks and in the tables at the end is made anew. From
-the contracts of `aide_headline`, and from the laws of `aide_line_laws` that the second page begins
-with, this follows each name to its definition, and from there to the definitions that it uses. A
-definition comes before those that it uses. With --write the pages are written; tests/source/test_docs.py compares them with the
-definitions.
+The prose is that of the pages. What stands in blocks and in the tables at the end is made anew.
+From the contracts of `aide_headline`, and from the laws of `aide_line_laws` that the second page
+begins with, this follows each name to its definition, and from there to the definitions that it
+uses. A definition comes before those that it uses. With --write the pages are written;
+tests/source/test_docs.py compares them with the definitions.
 """
 from __future__ import annotations
 

@@ -1,5 +1,5 @@
-"""The tables at the end of docs/HEADLINE.md: what contracts see of devices, and the types of the code.
-The words of the toolchain's library have rows that people write."""
+"""The tables at the end of docs/HEADLINE.md: what contracts see of devices, and the types of the
+code. The words of the toolchain's library have rows that people write."""
 from __future__ import annotations
 
 import re
@@ -60,8 +60,8 @@ def types_in(places: Sequence[Place]) -> set[Place]:
 
 
 def types_of(outside: Places, known: Sequence[Place] = ()) -> list[str]:
-    """A table of the types of the code among these names, with the variants or fields of each; those
-    that are `known` from another page are left out."""
+    """A table of the types of the code among these names, with the variants or fields of each;
+    those that are `known` from another page are left out."""
     lines = ["| Type | Is | Has | File |", "|---|---|---|---|"]
     for crate, module, name in sorted(types_in(outside) - types_in(known)):
         file = f"crates/{crate}/src/{module}.rt"

@@ -1,5 +1,5 @@
-"""Reads the worked examples of definitions: what the proofs of `aide_line_laws` state of each, which
-`rt check` proves, and the entries and lists that these examples are about."""
+"""Reads the worked examples of definitions: what the proofs of `aide_line_laws` state of each,
+which `rt check` proves, and the entries and lists that these examples are about."""
 from __future__ import annotations
 
 import re
@@ -32,8 +32,8 @@ def examples_of(file: str) -> dict[Place, list[str]]:
 
 
 def things_of(file: str) -> list[str]:
-    """Lines with the entries and lists that the examples of a file are about: its public definitions
-    that have a sentence and are no examples."""
+    """Lines with the entries and lists that the examples of a file are about: its public
+    definitions that have a sentence and are no examples."""
     lines: list[str] = []
     for name, definition in File(read(f"{FOLDER}/{file}")).definitions.items():
         if definition.sentence and "pub " in definition.lines[0] and "_example" not in name:

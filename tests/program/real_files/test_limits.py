@@ -42,8 +42,8 @@ class LimitsTest(FolderTest):
             self.check_words("a cut after %d bytes" % length, self.folder.words(), want)
 
     def test_long_lines(self) -> None:
-        """Lines of a database of just the greatest length, and one byte longer: a path and a link of
-        a megabyte, a comment and an end line."""
+        """Lines of a database of just the greatest length, and one byte longer: a path and a link
+        of a megabyte, a comment and an end line."""
         for more, statuses in ((0, (3, 3, 1, 0)), (1, (24, 24, 24, 24))):
             entry = b"/%ff" + b"a" * (LINE_LIMIT - 6 + more) + b" 1"
             link = b"/b " + b"\xc3\xb6" * ((LINE_LIMIT - 4) // 2) + b"z" * (1 + more)

@@ -15,8 +15,8 @@ STACK = 64 * 1024
 @slow
 class StackTest(ProgramTest):
     def test_stack(self) -> None:
-        """Every stored session and configurations beyond a limit, with 64 kB of stack, the arguments
-        among them."""
+        """Every stored session and configurations beyond a limit, with 64 kB of stack, the
+        arguments among them."""
         settings = {"preexec_fn": limited(resource.RLIMIT_STACK, STACK), "env": {}}
         for label, words, want in cases.in_turn(cases.all_cases()):
             self.check(label + " with little stack", run(self.program, words, **settings), want)
