@@ -63,8 +63,7 @@ def subject(message: Message | None) -> Any:
 
 
 def words_of(text: bytes) -> str:
-    """A text without the ends of its lines, as a shell reads a command that goes on after a
-    backslash."""
+    """A text as a shell reads it, whose lines go on after a backslash."""
     return " ".join(text.decode().replace("\\\n", " ").split())
 
 

@@ -83,8 +83,7 @@ class AcceptTest(AcceptingTest):
             self.refuses(18, b"more than one user can write")
 
     def test_directory_of_former(self) -> None:
-        """A directory with the name that the former baseline gets is found before anything
-        changes."""
+        """A directory in the place of the former baseline is found before anything changes."""
         os.remove(self.path("base/aide.db.previous"))
         os.mkdir(self.path("base/aide.db.previous"))
         said = b"cannot write the baseline base/aide.db: aide.db.previous is a directory\n"

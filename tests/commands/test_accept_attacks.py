@@ -144,8 +144,7 @@ class AcceptAttacksTest(AcceptingTest):
                 self.assertEqual(self.read("root/secret"), SECRET, (make, name))
 
     def test_swapped_database(self) -> None:
-        """NEW changes its place with another database while it is read: what is accepted has the
-        digest."""
+        """NEW is exchanged while it is read: what is accepted has the digest."""
         command, ends, name = forked(self), set(), self.path("base/aide.db.new")
         for number in range(1, 40):
             fresh(self)

@@ -54,8 +54,7 @@ class AcceptKillsTest(AcceptingTest):
         self.assertTrue(12 < number < MOST_CALLS, number)
 
     def is_killed(self, command: Forked, options: dict[str, int]) -> bool:
-        """Whether the command was killed at a call, and the baseline is then whole. The next run is
-        right."""
+        """Whether the command was killed at a call. The baseline is whole, the next run right."""
         mark = self.path("marks/%(AT_NUMBER)d" % options)
         done = accept_at(command, AT_WAY=KILLED, AT_MARK=mark, **options)
         if not os.path.isdir(mark):

@@ -28,8 +28,7 @@ def random_path(draw: random.Random) -> str:
 
 class AcceptPartlyTest(AcceptingTest):
     def test_unsound(self) -> None:
-        """What the program refuses becomes no baseline, also with its right digest, and nothing
-        moves."""
+        """What the program refuses becomes no baseline, also with its digest. Nothing moves."""
         told = b"refused: base/aide.db.new is no sound database\n"
         for text in (
             bytes(range(256)) * 20,

@@ -14,7 +14,8 @@ from .test_run import KEYS
 TOOL = "aide-compare compare --report"
 HOUR = 3600
 YEARS = 2 * 365 * 24 * HOUR
-REFUSAL = "aide-compare: the new database %s is %s old, more than --max-age allows: does AIDE still run?\n"
+REFUSAL = "aide-compare: the new database %s is %s old, more than --max-age allows"
+REFUSAL += ": does AIDE still run?\n"
 
 
 class AgeTest(CommandTest):

@@ -109,8 +109,7 @@ class AttacksTest(CommandTest):
             self.assertEqual(self.leftovers(), [], turn)
 
     def test_waiting(self) -> None:
-        """Nobody writes to a FIFO, and a device never ends: both are refused at once, as either
-        database."""
+        """Nobody writes to a FIFO, and a device never ends: both are refused at once."""
         os.mkfifo(self.path("fifo"))
         for name in ("fifo", "/dev/zero", "/dev/tty", "/dev/null"):
             self.refused(18, b"not a regular file", TOOL, name, "new.db", limit=60)

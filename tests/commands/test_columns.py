@@ -13,8 +13,8 @@ TOOL = "aide-compare"
 STATUS, CHECK = "aide-compare status --format ", "check_aide_compare"
 STATE = ("--state", "state")
 OLD = (
-    b"@@begin_db\n@@db_spec name attr perm fstype size\n/b 36 40755 ext4 4096\n/c 36 100644 ext4 5\n"
-    + END
+    b"@@begin_db\n@@db_spec name attr perm fstype size\n/b 36 40755 ext4 4096\n"
+    b"/c 36 100644 ext4 5\n" + END
 )
 
 

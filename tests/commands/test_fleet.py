@@ -26,13 +26,15 @@ while [ "${1#-}" != "$1" ]; do [ "$1" = -o ] && shift; shift; done
 case $words in
     *PreferredAuthentications=none*) echo "$1 KEY" >> "ROOT/known_hosts"; exit 255 ;;
 esac
-[ ! -e "ROOT/down/$1" ] || { echo "ssh: connect to host $1 port 22: Connection refused" >&2; exit 255; }
+refused="ssh: connect to host $1 port 22: Connection refused"
+[ ! -e "ROOT/down/$1" ] || { echo "$refused" >&2; exit 255; }
 case $1 in
     endless) exec cat /dev/zero ;;
     slow) while :; do printf x; sleep 0.1; done ;;
     silent) echo $$ > ROOT/ssh.pid; exec sleep 300 ;;
     unknown) printf 'Host key verification failed.\\r\\n' >&2; exit 255 ;;
-    changed) printf 'REMOTE HOST IDENTIFICATION HAS CHANGED!\\nHost key verification failed.\\n' >&2; exit 255 ;;
+    changed) printf 'REMOTE HOST IDENTIFICATION HAS CHANGED!\\n' >&2
+        printf 'Host key verification failed.\\n' >&2; exit 255 ;;
     denied) echo "root@denied: Permission denied (publickey)." >&2; exit 255 ;;
     coloured) printf 'a\\033[31mb\\302\\233c\\n' >&2; exit 1 ;;
     killer) kill -9 $PPID; exit 1 ;;

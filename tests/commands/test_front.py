@@ -100,8 +100,7 @@ class FrontTest(CommandTest):
         self.refused(18, b"cannot find " + self.program.encode(), TOOL, "-E")
 
     def test_builds(self) -> None:
-        """The build for newer processors runs where the processor is one, by what the system tells
-        of it."""
+        """The build for newer processors runs where the system says that the processor is one."""
         told, program = self.path("cpuinfo"), self.path("libexec/aide-compare/aide-v3")
         self.set_names("base.program", CPUINFO=told)
         self.stub("aide-v3", "echo newer; exit 5", "libexec/aide-compare")

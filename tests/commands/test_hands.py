@@ -44,8 +44,7 @@ class HandsTest(CommandTest):
         return mail.sent(self)
 
     def test_failed_unit(self) -> None:
-        """The unit that is started after a failure mails it, with or without systemd's
-        variables."""
+        """The unit that a failure starts mails it, with systemd's variables or without."""
         mail.prepare(self)
         self.set_names("mail.sending", MAILERS=(self.path("stubs/sendmail"),))
         failed = "aide-compare.service failed%s. Its lines: journalctl -u aide-compare.service\n"
@@ -79,8 +78,7 @@ class HandsTest(CommandTest):
         self.assertNotIn(b"/srv/*", answer.errors, "another file in place of the usual one")
 
     def test_command_of_mail(self) -> None:
-        """The command that a mail prints makes the page of the same changes, and leaves no
-        state."""
+        """The command that a mail prints makes the page of the same changes. It leaves no state."""
         self.prepare("--to a@b.example\n")
         message = self.mails(5, "--state", "of.state", *NIGHT)
         shown = mail.body(message).decode().partition(" (with the options of this job):\n    ")[2]
@@ -93,8 +91,7 @@ class HandsTest(CommandTest):
         self.assertFalse(os.path.exists(self.path("of.state")))
 
     def refused_defaults(self, name: str, said: bytes) -> None:
-        """A comparison and a check are refused for a file of the administrator, and that is
-        mailed."""
+        """A comparison and a check refuse a file of the administrator, which is mailed."""
         self.refused(18, said, TOOL, *NIGHT)
         answer = mail.call(self, *NIGHT)
         self.assertEqual(answer.status, 18, answer)

@@ -91,8 +91,7 @@ class HostsPageTest(CommandTest):
         return found[0]
 
     def test_values(self) -> None:
-        """The counts, the hosts that were not compared, and each change with its hosts and
-        values."""
+        """The counts, the hosts that were not compared, and changes with hosts and values."""
         hosts = four_hosts(self)
         hosts.list_hosts("www1", "www2", "www3", "www4", "calm", "never")
         self.set_names("commands.hosts_report", MAX_NAMES=2)

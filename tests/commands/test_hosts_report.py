@@ -76,8 +76,7 @@ class Hosts(Fleet):
         return self.call("aide-compare hosts report", *words, path, before=before)
 
     def objects(self, *words: str) -> Objects:
-        """The objects of a report in JSON: the summary, the hosts by their names, and the
-        changes."""
+        """The objects of a report in JSON: the summary, the hosts by name, the changes."""
         said = self.report("--format=json", *words)
         summary, *rest = [json.loads(each) for each in said.output_text.splitlines()] or [{}]
         self.sandbox.assertTrue(said.output_text.isascii(), said)
@@ -136,7 +135,8 @@ class HostsReportTest(CommandTest):
         first = "aide on 5 hosts: 4 differ, 0 not compared, 1 without differences\n"
         self.assertTrue(said.output_text.startswith(first), said)
         for part in (
-            "\nhigh on 3 of 5 hosts: www1, www2 and 1 more\nadded File: /usr/.x\n    size       4\n",
+            "\nhigh on 3 of 5 hosts: www1, www2 and 1 more\nadded File: /usr/.x\n    size "
+            "      4\n",
             "\n    mode       -rwsr-xr-x\n",
             "\n    of each host: mtime, inode, links\n",
             "\nhigh on 1 of 5 hosts: www4\nadded File: /usr/.x\n",

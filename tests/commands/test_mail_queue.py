@@ -37,8 +37,7 @@ class QueueTest(MailTest):
             self.assertEqual(self.state(status)["status"], status, "the state without a mailer")
 
     def test_journal(self) -> None:
-        """Without any mail, a line at priority alert goes to the system log, or to systemd's
-        journal."""
+        """Without any mail, the system log or systemd's journal gets a line of priority alert."""
         self.stub("sendmail", "exit 75")
         pair = ("old.db", "new.db")
         for name, wanted in (

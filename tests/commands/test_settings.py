@@ -71,7 +71,8 @@ class SettingsTest(CommandTest):
         """What a person names counts. A run that is silent for it says how much it leaves out."""
         self.morning()
         self.write("own.conf", SILENCING)
-        note = b"aide-compare: report_ignore_changed_attrs leaves 19 attributes out of the comparison\n"
+        note = b"aide-compare: report_ignore_changed_attrs leaves 19 attributes out"
+        note += b" of the comparison\n"
         for words in (("-c", "own.conf", "aide.db", "aide.db.new"), ("-A", SILENCING)):
             self.answered(0, None, note, "aide-compare", *words)
             answer = self.call("aide-compare", "--report", *words)

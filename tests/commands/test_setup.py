@@ -278,8 +278,7 @@ class SetupTest(CommandTest):
         self.assertEqual((stat.S_IMODE(done.st_mode), done.st_uid), (0o755, NOBODY))
 
     def test_hostile(self) -> None:
-        """Whoever owns the folder of the databases gets no file of root's by a name that he
-        chooses."""
+        """Whoever owns the folder of the databases gets no file of root's by any name."""
         secret = self.write("root/secret", b"@@begin_db\n", 0o600)
         base = self.path(DATABASES + "aide.db")
         ways: dict[str, Callable[[], object]] = {

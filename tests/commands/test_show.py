@@ -9,7 +9,8 @@ from tests.commands.viewers.pages import HAS_NODE, seen
 from .sandbox import CommandTest, END, HEAD
 
 TOOL = "aide-compare show"
-COLUMNS = b"@@begin_db\n@@db_spec name lname attr perm bcount uid gid size mtime inode lcount sha256 acl xattrs\n"
+COLUMNS = b"@@begin_db\n@@db_spec name lname attr perm bcount uid gid size mtime inode lcount"
+COLUMNS += b" sha256 acl xattrs\n"
 ATTR = (1 << 64) - 1
 
 

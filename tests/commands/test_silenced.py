@@ -157,8 +157,7 @@ class SilencedTest(mail.MailTest):
         self.names_all("a weak digest", host, (b"/usr/bin/x",))
 
     def test_hidden_package(self) -> None:
-        """Of many packages that come in one night, a foreign one was neither named nor were its
-        files."""
+        """Of many packages of one night, a foreign one was not named, nor were its files."""
         host = Host()
         packages = {
             f"n{number:02}": [b"/usr/share/n%02d/%d" % (number, at) for at in range(3)]

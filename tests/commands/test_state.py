@@ -20,7 +20,8 @@ LINKS = f"""import os, sys
 folder, prey = sys.argv[1:]
 print("begun", flush=True)
 while True:
-    for name in ["aide.prom", ".aide.prom.part"] + [each for each in os.listdir(folder) if each.startswith((".aide", "aide.prom"))]:
+    found = [each for each in os.listdir(folder) if each.startswith((".aide", "aide.prom"))]
+    for name in ["aide.prom", ".aide.prom.part"] + found:
         try:
             os.symlink(prey, folder + "/mine")
             os.rename(folder + "/mine", folder + "/" + name)

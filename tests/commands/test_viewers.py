@@ -195,7 +195,8 @@ class ViewersTest(ProgramTest):
         views = [
             VIEWED % (choices, logic, entries, json.dumps(case["view"])) for case in table["cases"]
         ]
-        text = f"console.log(JSON.stringify([{','.join(view.rstrip().rstrip(';') for view in views)}]))"
+        values = ",".join(view.rstrip().rstrip(";") for view in views)
+        text = f"console.log(JSON.stringify([{values}]))"
         done = subprocess.run(
             ["node", "-"], input=text.encode(), stdout=subprocess.PIPE, check=True
         )

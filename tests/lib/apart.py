@@ -12,7 +12,8 @@ from collections.abc import Sequence
 # /tmp, /var/tmp and /run.
 FOLDERS = "/boot /etc /home /opt /root /srv /usr /var/lib /var/log /var/mail /var/spool"
 SCRIPT = (
-    "for folder in %s; do [ ! -d $folder ] || { mount --bind $folder $folder && mount -o remount,bind,ro $folder; } || exit 125; done\n"
+    "for folder in %s; do [ ! -d $folder ] ||"
+    " { mount --bind $folder $folder && mount -o remount,bind,ro $folder; } || exit 125; done\n"
     'exec "$@"'
 ) % FOLDERS
 PREFIX = ["unshare", "--mount", "--propagation", "private", "sh", "-c", SCRIPT, "sh"]

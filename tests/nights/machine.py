@@ -79,8 +79,7 @@ def own_group(name: str) -> Path:
 
 
 class Machine:
-    """One machine: the directory of its files, and the process of its systemd while it is
-    booted."""
+    """One machine: the directory of its files, and its systemd while it is booted."""
 
     def __init__(self, root: Path, name: str) -> None:
         self.root = root

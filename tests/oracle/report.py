@@ -43,8 +43,7 @@ def titled(title: bytes) -> list[bytes]:
 
 
 def attribute_lines(attribute: Attribute, change: Change, settings: Settings) -> list[bytes]:
-    """The lines of an attribute in the details: pieces of the old value beside pieces of the new
-    one."""
+    """The lines of an attribute in the details: pieces of both values beside one another."""
     old, new = (
         pieces_of(value_text(attribute, entry, settings)) for entry in (change.old, change.new)
     )

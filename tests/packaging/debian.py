@@ -27,8 +27,8 @@ DAILY = "var/lib/aide-compare/daily/mail/waiting"
 
 # What dpkg is told of the packages that this one depends on.
 NEEDED = "".join(
-    "Package: %s\nStatus: install ok installed\nMaintainer: nobody\nArchitecture: amd64\nMulti-Arch: %s\n"
-    "Version: %s\nDescription: needed\n\n" % row
+    "Package: %s\nStatus: install ok installed\nMaintainer: nobody\nArchitecture: amd64\n"
+    "Multi-Arch: %s\nVersion: %s\nDescription: needed\n\n" % row
     for row in (("libc6", "same", "2.36-9"), ("python3", "allowed", "3.11.2-1"))
 )
 

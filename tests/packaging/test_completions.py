@@ -61,7 +61,8 @@ ask() {
     zpty -w answering "$1"
     zpty -r answering answer "*$2*" || exit 8
 }
-ask "PS1=; fpath=($1 \$fpath); autoload -U compinit; compinit -D -u; unsetopt zle_bracketed_paste; print rea''dy" ready
+ask "PS1=; fpath=($1 \$fpath); autoload -U compinit; compinit -D -u
+unsetopt zle_bracketed_paste; print rea''dy" ready
 zpty -w -n answering "$2"$'\t'
 zpty -w -n answering $'\C-a#\n'
 zpty -w answering "print do''ne"

@@ -174,8 +174,7 @@ class InstallingTest(InstallTest):
         self.removes_all(folder)
 
     def test_unwritable(self) -> None:
-        """What cannot be written is refused before anything is, also before the program is
-        built."""
+        """What cannot be written is refused before anything is, or the program is built."""
         shut = self.path("shut/usr")
         os.makedirs(shut)
         os.chmod(shut, 0o555)

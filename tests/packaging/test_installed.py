@@ -16,7 +16,8 @@ from tests.packaging.installation import InstallTest, texts, tree
 from tests.packaging.test_install import DOCUMENTS
 
 # The paths below a prefix that the installed texts name.
-OWN_PATH = r"/(?:bin/aide-compare|lib/aide-compare/|lib/nagios|lib/systemd/|share/doc/aide-compare)[\w./-]*"
+OWN_PATH = r"/(?:bin/aide-compare|lib/aide-compare/|lib/nagios|lib/systemd/|share/doc/aide-compare)"
+OWN_PATH += r"[\w./-]*"
 # Paths of the repository that mean nothing to a reader of an installed page.
 SOURCE_PATH = re.compile(
     r"(?<![\w/.-])(?:(?:docs|tests|tools|crates|contrib|man|bench|specs)/[\w.*-]+|\.\./[\w.]+)"
@@ -71,8 +72,7 @@ class InstalledTest(InstallTest):
                 self.assertIn(name[11:], found, path)
 
     def test_documents(self) -> None:
-        """Documents link to one another where they lie now, and to nothing that is not
-        installed."""
+        """Documents link to one another where they lie now, and to what is installed alone."""
         links = [
             (path, name)
             for path, text in texts(tree(self.first())).items()

@@ -28,8 +28,8 @@ MANUALS = sorted(
     os.path.relpath(path, TOP) for path in glob.glob(os.path.join(TOP, "man", "*.[1-8]"))
 )
 MARK = re.compile(
-    r'^(?:<!-- |\.\\" )((?:run|before|prints|is output of|not run|try|by hand|not tried|no command|from)\b.*?)'
-    r"(?: -->)?$"
+    r'^(?:<!-- |\.\\" )((?:run|before|prints|is output of|not run|try|by hand|not tried|no command'
+    r"|from)\b.*?)(?: -->)?$"
 )
 ESCAPES = [("\\&", ""), ("\\e", "\\"), ("\\-", "-"), ("\\(aq", "'"), ("\\(dq", '"')]
 

@@ -88,8 +88,10 @@ MEMBERS = [
     (b"capabilities", b"\xed\xa0\x80", '"Caps_hex":"eda080"'),
 ]
 
-OLD = b"@@begin_db\n@@db_spec name attr perm size foo\n/b 36 40755 4096 x\n/c 36 100644 10 x\n/d 36 100644 1 x\n@@end_db\n"
-NEW = b"@@begin_db\n@@db_spec name attr perm size\n/a%ff%0a 36 100644 5\n/c 36 100600 10\n/d 36 100644 1\n@@end_db\n"
+OLD = b"@@begin_db\n@@db_spec name attr perm size foo\n/b 36 40755 4096 x\n/c 36 100644 10 x\n"
+OLD += b"/d 36 100644 1 x\n@@end_db\n"
+NEW = b"@@begin_db\n@@db_spec name attr perm size\n/a%ff%0a 36 100644 5\n/c 36 100600 10\n"
+NEW += b"/d 36 100644 1\n@@end_db\n"
 
 # What the last line has of each: the digests are those that sha256sum prints.
 OLD_READ = (
@@ -268,16 +270,19 @@ TRUSTED = [
 SETTINGS = [
     (
         b"",
-        '{"format":3,"database_in":null,"database_new":null,"report_level":"changed_attributes","report_grouped":true,'
-        '"report_summarize_changes":true,"report_base16":false,"report_quiet":false,"report_ignore_added_attrs":[],'
-        '"report_ignore_removed_attrs":[],"report_ignore_changed_attrs":[],"report_force_attrs":[]}\n',
+        '{"format":3,"database_in":null,"database_new":null,"report_level":"changed_attributes",'
+        '"report_grouped":true,"report_summarize_changes":true,"report_base16":false,'
+        '"report_quiet":false,"report_ignore_added_attrs":[],"report_ignore_removed_attrs":[],'
+        '"report_ignore_changed_attrs":[],"report_force_attrs":[]}\n',
     ),
     (
         b'database_in=file:/o%20"\ndatabase_new=file:/n\nreport_level=minimal\nreport_grouped=no\n'
-        b"report_summarize_changes=no\nreport_base16=yes\nreport_quiet=yes\nreport_ignore_added_attrs=s+p\n"
-        b"report_ignore_removed_attrs=L-acl-selinux-xattrs\nreport_ignore_changed_attrs=sha512_256\nreport_force_attrs=ftype\n",
-        '{"format":3,"database_in":"/o%20\\"","database_new":"/n","report_level":"minimal","report_grouped":false,'
-        '"report_summarize_changes":false,"report_base16":true,"report_quiet":true,"report_ignore_added_attrs":["s","p"],'
+        b"report_summarize_changes=no\nreport_base16=yes\nreport_quiet=yes\n"
+        b"report_ignore_added_attrs=s+p\nreport_ignore_removed_attrs=L-acl-selinux-xattrs\n"
+        b"report_ignore_changed_attrs=sha512_256\nreport_force_attrs=ftype\n",
+        '{"format":3,"database_in":"/o%20\\"","database_new":"/n","report_level":"minimal",'
+        '"report_grouped":false,"report_summarize_changes":false,"report_base16":true,'
+        '"report_quiet":true,"report_ignore_added_attrs":["s","p"],'
         '"report_ignore_removed_attrs":["ftype","l","p","u","g","i","n","e2fsattrs","caps"],'
         '"report_ignore_changed_attrs":["sha512_256"],"report_force_attrs":["ftype"]}\n',
     ),

@@ -20,8 +20,8 @@ Make = Callable[[int, int, bytes], list[bytes]]
 Check = Callable[[list[bytes]], tuple[int, list[str]]]
 
 
-# The names of folders: most are plain, and others have blanks, a newline, bytes above 127, what JSON
-# escapes or a great length.
+# The names of folders: most are plain, and others have blanks, a newline, bytes above 127, what
+# JSON escapes or a great length.
 FOLDERS = 8 * [b"plain"] + [b" ends ", "\xe9 \u20ac \U0001f332".encode(), b"-E", b"#x = y", b"a\nb"]
 FOLDERS += [b"a\xffb", b'"\\\t\x7f', "\u202e\u2066".encode(), b"/".join([b"d" * 249] * 6)]
 
@@ -46,8 +46,7 @@ def make_session(seed: int, number: int, folder: bytes) -> list[bytes]:
 
 
 def make_session_beside(seed: int, number: int, folder: bytes) -> list[bytes]:
-    """Writes the files of a session of four databases, of which two are trusted, and gives its
-    words."""
+    """Writes the files of a session of two pairs, one of them trusted. Gives its words."""
     pick = random.Random("%d %d beside" % (seed, number))
     bad = pick.choice([0, 0, 0, 0, 0.3])
     config = os.path.join(folder, b"conf")

@@ -72,8 +72,7 @@ def records() -> dict[str, list[str]]:
 
 
 def promised_by(call: str, source: str) -> set[str]:
-    """The names of what a call promises: its clauses, and the fields of the records that these
-    cite."""
+    """The names of what a call promises: its clauses, and the fields of records in these."""
     text = read(source)
     contract = text[text.index(f"pub fn {call}<") :].split("\n{\n")[0]
     names = set(re.findall(r"ensures (\w+) \{", contract))

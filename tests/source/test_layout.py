@@ -26,8 +26,7 @@ USE = re.compile(r"^\s*(?:pub(?:\([^)]*\))?\s+)?use\s+([^;{]*)(?:\{([^{}]*)\})?;
 
 
 def split_uses(text: str) -> Iterator[list[str]]:
-    """Each path that a `use` line of code names, as a list of words. A ghost import names no
-    code."""
+    """Each path of a `use` line of code, as a list of words. A ghost import names no code."""
     for head, names in USE.findall(text):
         for name in [each for each in names.split(",") if each.strip()] or [""]:
             path = (head + name).split(" as ")[0]

@@ -15,7 +15,8 @@ HOSTILE = """import resource, sys
 sys.path.insert(0, sys.argv[1])
 from aide_compare.base.paths import Pattern
 resource.setrlimit(resource.RLIMIT_CPU, (20, 20))
-hostile = (b"/" + b"*a" * 20 + b"b", b"/" + b"a" * 4000), (b"/" + b"**/a/" * 20 + b"b", b"/b" + b"/a" * 2000)
+hostile = [(b"/" + b"*a" * 20 + b"b", b"/" + b"a" * 4000)]
+hostile += [(b"/" + b"**/a/" * 20 + b"b", b"/b" + b"/a" * 2000)]
 print(*(Pattern(text).matches(path[1:].split(b"/")) for text, path in hostile))
 """
 

@@ -20,15 +20,16 @@ TABLE: list[tuple[str, Value, str | None]] = [
     ),
     (
         "ACL",
-        b"POSIX,dXNlcjo6cnctCnVzZXI6NDI0Mjpyd3gJI2VmZmVjdGl2ZTpyLS0KZ3JvdXA6OnItLQptYXNrOjpyLS0Kb3RoZXI6OnItLQo=,0",
+        b"POSIX,dXNlcjo6cnctCnVzZXI6NDI0Mjpyd3gJI2VmZmVjdGl2ZTpyLS0KZ3JvdXA6OnItLQptYXNrOjpyLS0K"
+        b"b3RoZXI6OnItLQo=,0",
         "user::rw-, user:4242:rwx #effective:r--, group::r--, mask::r--, other::r--",
     ),
     (
         "ACL",
-        b"POSIX,dXNlcjo6cnd4Cmdyb3VwOjpyLXgKb3RoZXI6OnIteAo=,dXNlcjo6cnd4CnVzZXI6NDM0Mzpyd3gJI2VmZmVjdGl2ZTpyLS0KZ3JvdXA6"
-        b"OnIteAkjZWZmZWN0aXZlOnItLQptYXNrOjpyLS0Kb3RoZXI6OnIteAo=",
-        "user::rwx, group::r-x, other::r-x, default:user::rwx, default:user:4343:rwx #effective:r--, "
-        "default:group::r-x #effective:r--, default:mask::r--, default:other::r-x",
+        b"POSIX,dXNlcjo6cnd4Cmdyb3VwOjpyLXgKb3RoZXI6OnIteAo=,dXNlcjo6cnd4CnVzZXI6NDM0Mzpyd3gJI2Vm"
+        b"ZmVjdGl2ZTpyLS0KZ3JvdXA6OnIteAkjZWZmZWN0aXZlOnItLQptYXNrOjpyLS0Kb3RoZXI6OnIteAo=",
+        "user::rwx, group::r-x, other::r-x, default:user::rwx, default:user:4343:rwx #effective:r--"
+        ", default:group::r-x #effective:r--, default:mask::r--, default:other::r-x",
     ),
     (
         "XAttrs",
@@ -39,7 +40,8 @@ TABLE: list[tuple[str, Value, str | None]] = [
         "XAttrs",
         b"5,user.empty,0,user.nl,YQpi,user.nul,YWJjAA==,trusted.t,dHQ=,security.selinux,"
         b"c3lzdGVtX3U6b2JqZWN0X3I6ZXRjX3Q6czA=",
-        'user.empty: ""; user.nl: "a\\012b"; user.nul: "abc\\000"; trusted.t: "tt"; security.selinux: system_u:object_r:etc_t:s0',
+        'user.empty: ""; user.nl: "a\\012b"; user.nul: "abc\\000"; trusted.t: "tt"; '
+        "security.selinux: system_u:object_r:etc_t:s0",
     ),
     ("SELinux", b"c3lzdGVtX3U6b2JqZWN0X3I6ZXRjX3Q6czA=", "system_u:object_r:etc_t:s0"),
     ("SELinux", b"c3lzdGVtX3U6b2JqZWN0X3I6ZXRjX3Q6czAA", "system_u:object_r:etc_t:s0"),

@@ -10,8 +10,7 @@ FULL = [b"-B", b"report_level=summary", b"-A", b"#"]
 
 
 def command_lines(conf: bytes) -> list[tuple[str, list[bytes], int]]:
-    """Command lines of many, long, empty and blank arguments, with the status that each is to
-    have."""
+    """Command lines of many, long, empty and blank arguments, with the status that is wanted."""
     begun = [b"-E", b"-c", conf]
     full = begun + FULL
     return [

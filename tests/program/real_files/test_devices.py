@@ -89,8 +89,7 @@ class DevicesTest(FolderTest):
             self.answered("no standard error, " + label, want, **gone)
 
     def test_writes(self) -> None:
-        """A line on standard error is never cut between two writes, and a long report goes out in
-        pages."""
+        """A line of standard error is never cut between writes. A long report goes out in pages."""
         for label, old, new in FAULTS:
             self.folder.pair(old, new)
             parts = written(self.folder, self.program, "stderr")
