@@ -57,7 +57,7 @@ MEASURES = ("aide_line_run", "Listed", "measures_between")
 JSON = ("aide_line_laws", "JsonLine", "AreJsonLines")
 # What a field means, and which number digits write, which the page of the report has.
 VALUES = [("aide_entry", "Values", "value_of"), ("aide_entry", "Numbers", "bits_of")]
-# The records of a run, and what contracts see of devices: HEADLINE_JSON.md has them.
+# The records of a run, and what contracts see of devices, which the page of the theorem leaves out.
 RUNS = [
     ("aide_line_run", "LinesRun", "IsLinesRun"),
     ("aide_line_run", "PairSeen", "PairSeen"),
