@@ -73,6 +73,8 @@ class KeptLinesTest(ModuleTest):
         few, many = (b"".join(kept_lines.kept_lines(judged, limit)) for limit in (2000, ROOM))
         rows = [(WHOLE, 20, many), (CUT, 13, few)]
         rows.append((UNREADABLE, 20, many.replace(b'"open":20', b'"open":21')))
+        for side in (b'"old":{"sha256":"0', b'"new":{"sha256":"0'):
+            rows.append((UNREADABLE, 20, many.replace(side, side[:-1] + b"1")))
         # No number of JSON, no text, no value, and no end, in a line whose form is known.
         deep = b'"GID":' + b"[" * 9000
         for word, other in zip(
@@ -80,7 +82,8 @@ class KeptLinesTest(ModuleTest):
             (b"017", b"/\xff", b'"0z44"', b'"UID":"x"', b"[]", deep),
         ):
             rows.append((UNREADABLE, 19, other.join(many.rsplit(word, 1))))
-        host = host_of("www", 1, "", State(1, 0, 20, 0, 0, standings=judged.counts))
+        pair = ("00" * 32, "00" * 32)
+        host = host_of("www", 1, "", State(1, 0, 20, 0, 0, *pair, standings=judged.counts))
         directory: Any = mock.Mock(file=self.path)
         for report, listed, data in rows:
             self.write("lines", data)

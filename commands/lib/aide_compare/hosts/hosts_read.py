@@ -10,10 +10,11 @@ from contextlib import closing
 from aide_compare.base.ending import Fault, Status, reason
 from aide_compare.base.escapes import shown
 from aide_compare.base.files import BLOCK, open_regular
-from aide_compare.base.words import age_in_words
+from aide_compare.base.words import SIDES, age_in_words
 from aide_compare.compare.state import State, read_state
 from aide_compare.hosts.report_values import CUT, UNREADABLE, WHOLE, Host
 from aide_compare.hosts.store import LINES, HostDirectory, check_name
+from aide_compare.lines.change import Counts, Fields
 from aide_compare.lines.reader import ODD, Outline, Reader, Refused
 
 # What a disk says of a place that is damaged, and a file system of the network of a file that is
@@ -51,6 +52,13 @@ def host_in(directory: HostDirectory, max_age: int) -> Host:
     return host_of(directory.host, state.told_status, state.error, state)
 
 
+def is_of_run(end: Fields, state: State, counts: Counts) -> bool:
+    """Whether lines with this end are of the run of a state, and not of another night's."""
+    digests = [end[side]["sha256"] for side in SIDES]
+    is_same_pair = digests == [state.old_sha256, state.new_sha256]
+    return is_same_pair and end.get("standings") == counts._asdict()
+
+
 def read_changes(directory: HostDirectory, host: Host, take: Callable[[Outline], object]) -> Host:
     """Gives each change in the lines that were kept of a host to `take`. Returns the host with what
     the lines are, and how many changes they have."""
@@ -66,8 +74,7 @@ def read_changes(directory: HostDirectory, host: Host, take: Callable[[Outline],
             for outline in lines.outlines():
                 take(outline)
                 listed += 1
-        # Otherwise they are the lines of another run.
-        if host.counts and host.counts._asdict() == lines.end.get("standings"):
+        if host.state and host.counts and is_of_run(lines.end, host.state, host.counts):
             report = CUT if listed < host.counts.to_read else WHOLE
     except (Refused, RecursionError, *ODD):
         pass
