@@ -1,5 +1,4 @@
-"""What people read of many hosts: the short report of 80 lines of 80 columns, the page, and no host
-that crowds out another."""
+"""What people read of many hosts: the short report, the page. No host crowds out all others."""
 from __future__ import annotations
 
 import re
@@ -12,25 +11,26 @@ from .viewers.pages import data_in
 ROOM = 100000
 SHADOW = line(b"/etc/shadow", b"mine", 2)
 FLOOD = 3000
+FLOODED = (b"/etc/cron.d/%05d", b"/n%05d")  # High and medium.
 OLD = database(line(b"/etc/shadow", b"old"))
 
 
 class HostsBriefTest(CommandTest):
     def test_neighbour(self) -> None:
-        """A host makes the change that an intruder makes on two others, and 3,000 of its own: all
-        others are still named."""
+        """A host makes a change of two others, and 3,000 of its own: all others are still named."""
         hosts = Hosts(self)
         changed = (OLD, database(SHADOW))
-        flood = (line(b"/etc/cron.d/%05d" % number, b"x") for number in range(FLOOD))
+        other = (database(), database(line(b"/zz")))
+        flood = (line(path % number, b"x") for path in FLOODED for number in range(FLOOD // 2))
         evil = (OLD, database(SHADOW, *flood))
-        hosts.compared({"evil1": evil, "good1": changed, "good2": changed, "good3": (OLD, OLD)})
+        hosts.compared({"evil1": evil, "good1": changed, "good2": changed, "good3": other})
         self.stub("sendmail", f'cat > "{self.root}/mail"')
         hosts.report("--to", "root")
         mailed = self.read("mail").decode().partition("\n\n")[2]
         for text in (hosts.report("--format=brief").output_text, mailed):
-            self.assertRegex(text, r"evil1, good1 \+1 +changed +/etc/shadow")
+            self.assertRegex(text, r"(?s)evil1, good1 \+1 +changed +/etc/shadow.*\n  good3 .* /zz:")
             left = re.findall(r"(?m)^  and ([\d,]+) more", text)
-            listed = len(re.findall("(?m)^  (?:evil1)? +added +/etc/cron.d/", text))
+            listed = len(re.findall("(?m)^  (?:evil1)? +added +/(?:etc/cron.d/|n)", text))
             rest = sum(int(count.replace(",", "")) for count in left)
             self.assertEqual(listed + rest, FLOOD, text)
             self.assertRegex(text, r"(?m)^  and [\d,]+ more on evil1$", "whose are left out")

@@ -26,9 +26,9 @@ SIZE = re.compile(" [0-9]+ bytes$")
 PART = f"{LISTED} and level = ? and owners = ?"
 IN_ORDER = f"select place, party, site from changes where {PART} order by {ORDER_OF_PART}"
 SIZES = f"select level, owners, count(*), count(*) from changes where {LISTED} group by 1, 2"
-# The same, and how many of them are among the first of a host.
+# The same, and how many lines the first of each host need, with those that count the others.
 SIZES_OF_HOSTS = f"""
-select level, owners, count(*), sum(turn <= ?)
+select level, owners, count(*), min(count(*), sum(turn <= ?) + ?)
 from (select level, owners, row_number() over (partition by level, owners, site) as turn
     from changes where {LISTED})
 group by 1, 2
@@ -111,7 +111,7 @@ def in_directory(key: bytes, width: int) -> str:
 def digest(table: Table, room: Room, names: Names) -> Iterator[Part]:
     """The parts of the open changes that there is room for."""
     if room.is_of_hosts:
-        parts = list(table.ask(SIZES_OF_HOSTS, room.first))
+        parts = list(table.ask(SIZES_OF_HOSTS, room.first, room.named))
     else:
         parts = list(table.ask(SIZES))
     sizes = [size for _, _, size, _ in parts]
