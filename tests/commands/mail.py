@@ -68,8 +68,7 @@ def words_of(text: bytes) -> str:
 
 
 def check_size(sandbox: CommandTest, label: str, text: bytes) -> None:
-    """A mail is read in one go: 80 lines of 80 columns. Only a word that has no blank may be
-    longer."""
+    """A mail is read in one go: 80 lines of 80 columns, but for words without a blank."""
     lines = text.decode().splitlines()
     long = [line for line in lines if len(line) > 80 and " " in line.strip(" \\")]
     sandbox.holds("the lines of %s" % label, len(lines) <= 80 and not long, (len(lines), long))

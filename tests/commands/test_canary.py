@@ -23,9 +23,11 @@ MARK = b"/usr/bin/mark"
 FIVE = "added 0, removed 0, changed 5: "
 # A state of another database than the one that is there.
 OTHER = """
-read = read_state
-def read_state(path):
-    return read(path)._replace(new_sha256="0" * 64)
+copy = copy_database
+def copy_database(*words):
+    made = copy(*words)
+    made.digest = "0" * 64
+    return made
 """
 
 
@@ -122,8 +124,8 @@ class CanaryTest(CommandTest):
         hosts = self.fleet("www3")
         self.after_import("hosts.canary", OTHER)
         lines = self.compared(hosts, "--canary", "www1")
-        cause = "aide.db.new is not the database that was compared"
-        self.assertTrue(lines[1].endswith(cause), lines)
+        cause = r"aide\.db(\.new)? is not the database that was compared\Z"
+        self.assertRegex(lines[1], cause)
         self.assertIn(f"www2 4 {FIVE}2 open (2 high) of 5 changes", lines, "nothing is silent then")
 
     def test_whole(self) -> None:

@@ -43,8 +43,7 @@ exec cat "ROOT/remote/$1"'''
 
 
 def hostile() -> bytes:
-    """Some kB of gzip, a database of 54 MB, and a report of ten times that: link names of control
-    bytes."""
+    """Some kB of gzip, a database of 54 MB, a report of ten times that: links of control bytes."""
     return gzip.compress(links(b"%01" * 300000))
 
 

@@ -133,8 +133,7 @@ class TrustedTest(mail.MailTest):
         self.expect("AIDE's report knows no pair", answer, 7, output=[report])
 
     def test_unreadable(self) -> None:
-        """A pair that cannot be read ends the comparison: nothing is compared with half of what was
-        asked."""
+        """A pair that cannot be read ends the comparison: nothing is compared with half of it."""
         put(self)
         sound = self.read("canary-new.db")
         named = b"the trusted new database"
