@@ -76,8 +76,7 @@ SIGNED = re.compile(rb"([+-]?)[ \t]*([A-Za-z0-9_>]+)")
 
 
 def set_of_name(name: bytes, defined: Groups) -> frozenset[str] | None:
-    """The set that a name stands for, groups of the configuration first; None where it stands for
-    nothing."""
+    """The set that a name means, groups of the configuration first; None if it means none."""
     text = name.decode("latin-1")
     for groups in (defined, GROUPS):
         if text in groups:

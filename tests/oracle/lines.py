@@ -194,8 +194,7 @@ def numbers_of(new: Database, counts: Counts, accounts: list[Account]) -> list[M
 
 
 class Parts(NamedTuple):
-    """The lines over the databases: the first one, those of the changes and the last one; and the
-    status."""
+    """The lines over the databases: the first, those of the changes, the last; and the status."""
 
     first: bytes
     changes: bytes

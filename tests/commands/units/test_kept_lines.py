@@ -73,6 +73,10 @@ class KeptLinesTest(ModuleTest):
         few, many = (b"".join(kept_lines.kept_lines(judged, limit)) for limit in (2000, ROOM))
         rows = [(WHOLE, 20, many), (CUT, 13, few)]
         rows.append((UNREADABLE, 20, many.replace(b'"open":20', b'"open":21')))
+        for name, account in ((b"same_as_old", b'"same_as":"old"'), (b"left_out", b'"left_out":1')):
+            silent = many.replace(b'"type"', account + b',"type"', 1)
+            silent = silent.replace(b'"%b":0' % name, b'"%b":1' % name, 1)
+            rows.append((UNREADABLE, 20, silent.replace(b'"others":20', b'"others":19')))
         for side in (b'"old":{"sha256":"0', b'"new":{"sha256":"0'):
             rows.append((UNREADABLE, 20, many.replace(side, side[:-1] + b"1")))
         # No number of JSON, no text, no value, and no end, in a line whose form is known.

@@ -93,8 +93,7 @@ class Validator:
         return found
 
     def faults_of_one(self, value: object, schemas: list[Schema], place: str) -> list[str]:
-        """What is wrong if a value does not fit one schema alone: that of the schema that is
-        nearest."""
+        """What is wrong if a value fits no schema: what the nearest of these says."""
         tried = [self.faults(value, schema, place) for schema in schemas]
         if tried.count([]) == 1:
             return []

@@ -53,7 +53,10 @@ def host_in(directory: HostDirectory, max_age: int) -> Host:
 
 
 def is_of_run(end: Fields, state: State, counts: Counts) -> bool:
-    """Whether lines with this end are of the run of a state, and not of another night's."""
+    """Whether lines with this end are of the run of a state, and not of another night's. Of silent
+    changes none is kept."""
+    if end["same_as_old"] or end["left_out"]:
+        return False
     digests = [end[side]["sha256"] for side in SIDES]
     is_same_pair = digests == [state.old_sha256, state.new_sha256]
     return is_same_pair and end.get("standings") == counts._asdict()
