@@ -144,16 +144,13 @@ class RecordedTest(CommandTest):
             self.check(f"a link to {target!r}", host, {LIB + b"tool.so": want, **wanted})
 
     def test_named(self) -> None:
-        """Packages that came or went, also those of which configuration is left, are named before
-        all else."""
+        """Packages that came or went, but for their configuration, are named before all else."""
         host = Host()
-        for name in ("came", "rose", "stayed"):
-            host.packages.append(Package(name, "1", {}))
-        host.packages.append(Package("left", "1", {}, state="deinstall ok config-files"))
-        for name in ("left", "rose", "went"):
-            host.old.file(INFO + name.encode() + b".list", ONE)
-        for name in ("came", "left", "rose"):
-            host.new.file(INFO + name.encode() + b".list", TWO)
+        host.packages.append(Package("stayed", "1", {}))
+        for name in ("left.list", "left.md5sums", "rose.list", "rose.md5sums", "went.list"):
+            host.old.file(INFO + name.encode(), ONE)
+        for name in ("came.list", "came.md5sums", "left.list", "rose.list", "rose.md5sums"):
+            host.new.file(INFO + name.encode(), TWO)
         lines = host.brief(self).split("\n")
         wanted = ["New packages: came", "Removed packages: left, went", ""]
         self.assertEqual(lines[1:4], wanted, ("the packages", lines[:6]))

@@ -14,7 +14,7 @@ from itertools import islice
 
 from aide_compare.base.ending import Fault, Status
 from aide_compare.base.words import SEVERITIES, status_of_counts
-from aide_compare.changes.packages import Dpkg, NamedPackages, Rpm, named_packages
+from aide_compare.changes.packages import Dpkg, Rpm, named_packages
 from aide_compare.changes.recorded import Matcher
 from aide_compare.changes.severity import RANKS, Severity
 from aide_compare.changes.table import RECORDED, Marks, Row, Table, Values
@@ -34,7 +34,7 @@ class Judged:
         self.reader = reader
         self.file = reader.file
         self.begin = self.file.tell()  # Of the first change.
-        self.named: NamedPackages = {}
+        self.named: dict[str, list[str]] = {}
         self.by = ""
         self.silent: Counter[str] = Counter()
         self.ranks: Counter[tuple[str, int]] = Counter()  # Of the others, by their kinds, too.
@@ -104,7 +104,7 @@ class Judged:
         `has_pair`: a trusted pair says which of the records are signed."""
         try:
             Matcher(self.table, self.read).match(records)
-            self.named = named_packages(self.table, records.packages, has_pair)
+            self.named = named_packages(self.table, has_pair)
         except BaseException:
             self.table.forget_records()
             raise
