@@ -270,8 +270,8 @@ class ManyTest(CommandTest):
     def test_records_that_end(self) -> None:
         """If a change cannot be read after some were recorded, all are open."""
         host = many_kinds()
-        fails = "known = Matcher._has\nrooms = [1, 1, 1, 1]\n"
-        fails += "Matcher._has = lambda *words: rooms.pop() and known(*words)\n"
+        fails = "known = Matcher.has\nrooms = [1, 1, 1, 1]\n"
+        fails += "Matcher.has = lambda *words: rooms.pop() and known(*words)\n"
         self.after_import("changes.recorded", fails)
         answer, objects = host.ask(self)
         self.assertIn(b"no package groups the changes", answer.errors)

@@ -6,7 +6,7 @@ import hashlib
 from tests.commands.units.calls import ModuleTest
 
 from aide_compare.base.files import BLOCK
-from aide_compare.changes.recorded import Matcher, target_of
+from aide_compare.changes.recorded import Matcher
 from aide_compare.changes.table import Table
 from aide_compare.lines.change import Change, Value, Values
 
@@ -17,10 +17,13 @@ FILE = LINK._replace(type="File")
 
 class RecordedTest(ModuleTest):
     def test_names(self) -> None:
+        targets = Matcher(Table(), lambda _: LINK).targets
         rows: list[tuple[Value, bytes]] = [("c", b"/a/c"), (b"../../c", b"/c"), ("//c/.", b"/c")]
-        for link, target in (*rows, (None, b""), ("", b"")):
-            self.gives(target, target_of, LINK._replace(new={"Lname": link}))
-        self.gives(b"", target_of, LINK)
+        for link, target in rows:
+            self.gives({target + b"\n"}, targets, LINK._replace(new={"Lname": link}))
+        unknown: list[Values] = [{"Lname": None}, {"Lname": ""}, {}]
+        for new in unknown:
+            self.gives(set(), targets, LINK._replace(new=new))
 
     def test_contents(self) -> None:
         """A content that only the file on this machine says is read, as long as there is room."""
@@ -46,5 +49,5 @@ class RecordedTest(ModuleTest):
             matcher = Matcher(Table(), lambda _: LINK)
             self.expect("the room", matcher.remaining, 2 << 30)
             matcher.remaining = BLOCK + room
-            self.expect(label, matcher.fits(FILE._replace(path=path, new=new), of), fits)
-        self.gives(False, matcher.fits, FILE._replace(new=strong), own)
+            self.expect(label, matcher.has(FILE._replace(path=path, new=new), of, {}), fits)
+        self.gives(False, matcher.has, FILE._replace(new=strong), own, {})
