@@ -56,14 +56,15 @@ class PackagesTest(ModuleTest):
             os.rename(path + ".own", path)
 
     def test_bound(self) -> None:
-        """All records together have so many bytes, and so many lists are read."""
-        self.write("dpkg/info/tool.list", TOOL.paths() + b"/more\n" * 100)
-        names = ("tool.list", "tool.md5sums", "gone.list")
-        size = sum(os.path.getsize(self.path(f"dpkg/info/{name}")) for name in names)
+        """All records together have so many bytes, and so many lists are read, in any blocks."""
+        size = os.path.getsize(self.write("dpkg/info/tool.list", TOOL.paths() + b"/more\n" * 100))
+        size += len(TOOL.sums() + GONE.paths())
         found = {"tool 2": {b"/usr/bin/tool\n": "c81e728d9d4c2f636f067f89cc14862c"}}
-        for name, most, reads in (("MAX_LISTS", 1, 0), ("MAX_LISTS", 2, 1), ("MAX_BYTES", size, 1)):
+        for name, most in (("MAX_LISTS", 2), ("MAX_BYTES", size), ("BLOCK", 48)):
             with mock.patch.object(packages, name, most):
-                self.expect(f"found, {name} {most}", self.members(), found if reads else {})
+                self.expect(f"found, {name} {most}", self.members(), found)
+        with mock.patch.object(packages, "MAX_LISTS", 1):
+            self.gives({}, self.members)
         with mock.patch.object(packages, "MAX_BYTES", size - 1):
             self.assertRaisesRegex(Fault, "have more than", self.members)
         os.unlink(self.path("dpkg/info/tool.md5sums"))

@@ -10,7 +10,6 @@ from aide_compare.changes.recorded import Matcher
 from aide_compare.changes.table import Table
 from aide_compare.lines.change import Change, Value, Values
 
-
 LINK = Change(b"/a/b", "added", "Link", "", {}, {})
 FILE = LINK._replace(type="File")
 
