@@ -123,7 +123,7 @@ class SortingTest(CommandTest):
             ("no names", b"@@begin_db\n/a 1\n" + END, [], 24, b"line 2: an entry before @@db_spec"),
             ("no path", BEGIN + b"36\n" + END, [], 24, b"line 4: no path"),
             ("a long line", long, [], 24, b"line 4: more than 1048576 bytes"),
-            ("too many bytes", whole, ["--max-size", "9k"], 18, b"more than 9216 bytes unpacked"),
+            ("too many bytes", whole, ["--max-size", "1k"], 18, b"more than 1024 bytes unpacked"),
             ("no such option", whole, ["--other"], 15, b"try: aide-compare sort --help"),
             ("no such file", whole, ["/nowhere"], 18, b"cannot open"),
         ]

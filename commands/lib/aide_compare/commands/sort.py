@@ -112,7 +112,7 @@ def say_repeated(rows: Rows) -> bool:
 
 def sort(request: SortRequest) -> int:
     """Writes the database in path order, and says what was out of order. Returns the status."""
-    rows = Rows(SCHEMA, 4 * request.max_size)
+    rows = Rows(SCHEMA, 4 * request.max_size + BLOCK)
     path = "/dev/stdin" if request.path == "-" else request.path
     copy = copy_database("given", path, request.max_size)
     rows.do_all("insert into lines values (?, ?, ?)", lines_of(copy))
