@@ -1,5 +1,4 @@
-"""How the changes of a sample stand, in all places where people and programs read it, and which of
-them raise an alarm."""
+"""How changes stand, wherever people and programs read it, and which of them raise an alarm."""
 from __future__ import annotations
 
 import json
@@ -186,8 +185,7 @@ class StandingsTest(mail.MailTest):
         self.assertEqual(answer.status, 2, "limits count what is recorded")
 
     def test_no_judgement(self) -> None:
-        """If the changes cannot be judged, the report and the status stand, the state has no
-        standings, and every change is an alarm."""
+        """Of changes that cannot be judged, report and status stand, and each is an alarm."""
         host = silent()
         host.write(self)
         before = dict(self.replaced)
@@ -205,6 +203,8 @@ class StandingsTest(mail.MailTest):
             answer = self.call(NAGIOS, "--state", "state")
             self.expect("the check then", answer, 2, b"AIDE CRITICAL", b"")
             self.assertTrue(is_mailed(self, host), "a mail then")
+            answer = self.call("aide-compare page", "host-old.db", "host-new.db")
+            self.expect("the page then", answer, 4, b"<pre>Differ", want)
         self.replaced = before
         self.after_import("lines.change", "Counts.fits\nCounts.fits = lambda *_: False\n")
         said = b"the counts of the standings are not those of the changes"

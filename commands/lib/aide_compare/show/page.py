@@ -291,7 +291,9 @@ def page_of(
     for line, marks in lines_in_order(judged) if judged else marked_lines(comparison.reader()):
         rows.add(line, marks)
     title = shown(f"File changes on {os.uname().nodename}")
-    digest = brief_of(judged).decode() or "No differences\n"
+    digest = "No differences\n"
+    if comparison.differs:
+        digest = brief_of(judged).decode() or "Differences, not judged\n"
 
     def heading() -> Fields:
         return heading_of(comparison, rows, title)
