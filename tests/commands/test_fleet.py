@@ -123,8 +123,7 @@ class FleetTest(CommandTest):
             self.assertIn(f"{host} {DIFFERS}\n", said.output_text, said)
 
     def test_hostile(self) -> None:
-        """One host sends some kB whose changes have hundreds of MB: it is compared, its lines are
-        cut, the others are as always."""
+        """One host sends some kB whose changes have hundreds of MB: its lines are cut."""
         fleet = self.fleet
         fleet.put("evil", hostile(), links(b"x"))
         hosts = fleet.list_hosts("evil", *PAIR)
@@ -212,6 +211,8 @@ class FleetTest(CommandTest):
         said = self.fleet.compare(self.fleet.list_hosts("good1", "killer", "good2"))
         self.fleet.not_compared("ended without an answer", said, "killer")
         self.assertEqual(len(said.output_text.splitlines()), 4, said)
+        self.after_import("hosts.fetching", "def transfer(*_):\n    raise MemoryError\n")
+        self.fleet.not_compared("out of memory", self.fleet.compare_one("good1"), "good1", 22)
 
     def test_wrong(self) -> None:
         """What is no name of a host makes no file."""
@@ -221,8 +222,7 @@ class FleetTest(CommandTest):
             self.assertNotIn(name, os.listdir(self.path("store/hosts")))
 
     def test_same_for(self) -> None:
-        """The same bytes for too long are no comparison, with differences or without. 08 hours are
-        eight."""
+        """The same bytes for too long are no comparison, differences or not. 08 hours are eight."""
         for host, text, counts, status in (
             ("good1", NEW, f"; it differs: {COUNTS}", 7),
             ("same", OLD, "", 0),

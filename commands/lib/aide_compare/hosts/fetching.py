@@ -7,7 +7,7 @@ import re
 from collections.abc import Callable
 from contextlib import closing, suppress
 
-from aide_compare.base.ending import Fault, OSErrorAsFault, write_all
+from aide_compare.base.ending import Fault, OSErrorAsFault, fault_of, write_all
 from aide_compare.base.escapes import shown
 from aide_compare.base.replacement import NewFile
 from aide_compare.base.processes import NOT_STARTED, OverTime, bounded, run, run_here
@@ -99,9 +99,10 @@ def fetch_watched(directory: HostDirectory, jobs: int) -> None:
     """The same of a watched host. If anything fails, its state says so, and the cause is kept."""
     try:
         fetch(directory, jobs)
-    except Fault as fault:
+    except (Fault, MemoryError) as error:
+        fault = fault_of(error)
         directory.not_fetched(fault.text)
-        directory.not_compared(fault.text)
+        directory.not_compared(fault.text, fault.status)
         raise
 
 
