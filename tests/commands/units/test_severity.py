@@ -304,7 +304,7 @@ class SeverityTest(ModuleTest):
         self.assertEqual(level_of(b"/srv/a", None, link, table), "medium", "in no line")
         self.assertEqual(level_of(b"/opt/a", None, entry(FILE), table), "high", "its second line")
         rows = b"low any /a/b*\nhigh any /a/b\nlow any /a/c\nhigh any /a/*\nmedium any /a/c\n"
-        first = Severity(self.write("table", rows))
+        first = Severity(self.write("table", b"low any /x\n" * 1000 + rows))
         levels = [level_of(path, None, link, first) for path in (b"/a/b", b"/a/c", b"/a/d")]
         self.assertEqual(levels, ["low", "low", "high"], "the first line, whatever its pattern")
         odd = b"urgent any /*,low /opt/*,low odd /opt/*,low any opt,low any,low"

@@ -24,8 +24,8 @@ SHIPPED = (
     "../../../../../share/aide-compare/severity.conf",
 )
 # A rank says how much a change matters, and its place among all others: what has a smaller one is
-# read first. Each severity has so many.
-RANKS = 1000
+# read first. Each severity has so many: one for each line that a table may have.
+RANKS = 10000
 OTHER_RANK = SEVERITIES.index("medium") * RANKS
 MAX_PATH = 4096  # PATH_MAX of Linux: no path of a file is longer, so no row means a longer one.
 # Stands for a program in a directory of which the rights changed.
@@ -86,15 +86,15 @@ def may_be_device_of_another(rights: Rights) -> bool:
 
 
 def comes_open(new: Rights) -> bool:
-    """Whether an entry that was not there gives more than its owner a right. In a sticky directory
-    names belong to the owners of the files."""
+    """Whether everybody may write an entry that was not there. In a sticky directory names belong
+    to the owners of the files."""
     is_sticky = new.is_directory and bool(new.least & stat.S_ISVTX)
     return bool(new.most & ALL_WRITE) and not is_sticky
 
 
 def gains_writers(old: Side, new: Side) -> bool:
-    """Whether somebody may write now who could not before: everybody, or another user or group than
-    root's. The mode of a link means nothing.
+    """Whether somebody may write now who could not before: everybody, or after root another user or
+    group. The mode of a link means nothing.
 
     What other users than root do with their own files counts only if everybody can write there.
     """
