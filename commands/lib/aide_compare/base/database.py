@@ -10,7 +10,7 @@ from enum import Enum
 
 from aide_compare.base.paths import key_of
 
-# AIDE and aide-compare refuse a longer line.
+# The proved program refuses a longer line.
 MAX_LINE = 1 << 20
 FIELDS = re.compile(rb"[^ \t\n]+")
 FIRST_FIELD = re.compile(rb"[ \t]*([^ \t\n]+)")

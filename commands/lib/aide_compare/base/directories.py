@@ -2,7 +2,7 @@
 
 A path is walked from the root, directory by directory, each opened by the one before. A symbolic
 link on the way is followed only if it is root's or the caller's, and lies in a directory where no
-other user can put one: so nobody else decides which file it is.
+other user can replace it.
 """
 from __future__ import annotations
 
@@ -112,8 +112,8 @@ def _pieces(path: str) -> list[str]:
 
 
 def _target_of(link: int, directory: Directory) -> str:
-    """What a symbolic link in a directory names. The link is followed only if nobody else can have
-    put it there."""
+    """What a symbolic link in a directory names. The link is followed only if it is root's or the
+    caller's, and nobody else can replace it."""
     with closed_after(link):
         if os.fstat(link).st_uid not in (0, os.geteuid()) or not directory.is_safe():
             raise failure(
@@ -166,7 +166,7 @@ def walked(path: str | bytes, make: bool = False) -> Walked:
 
 def open_directory(path: str | bytes, make: bool = False) -> Directory:
     """Opens a directory. With `make`, missing ones are made (0755), but only where no other user
-    could put something else."""
+    could replace them."""
     with OSErrorAsFault(f"cannot open the directory {shown(path)}"):
         end = walked(path, make)
         if end.file is not None:

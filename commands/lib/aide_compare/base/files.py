@@ -209,7 +209,7 @@ def unlink(name: str, directory: int) -> None:
 
 def nameless(path: str = "") -> int:
     """A private file that has no name, open for reading and writing: in this directory, or in that
-    of private files. Nothing is left of it however the command ends."""
+    of private files. Once it is made, nothing is left of it however the command ends."""
     path = path or private_directory()
     with OSErrorAsFault(f"cannot make a private file in {shown(path)}{NAME_ANOTHER}"):
         with closed_after(os.open(path, PLACE)) as directory:

@@ -82,7 +82,7 @@ Asks = TypeVar("Asks", bound="Asked")
 
 
 class Asked:
-    """What a command line asks for. Each field of a subclass is an option or an operand."""
+    """What a command line asks for. The rows of a subclass are its options and operands."""
 
     is_quiet: bool = field(QUIET)
     is_verbose: bool = field(VERBOSE)

@@ -1,8 +1,7 @@
 """Paths: their keys, by which they are put in order, and patterns.
 
 A key is a text whose order by bytes is the order of the paths, piece by piece. A slash becomes the
-byte 1, below every other byte of a key. The bytes 0 to 10 become the byte 2 and a printable one, so
-a key can be a field of a line.
+byte 1, below every other byte of a key. The bytes 0 to 10 become the byte 2 and a printable one.
 
 A pattern has `*`, `?` and `[..]` within a piece of a path, and `**` for any number of whole pieces.
 The work for a path grows with its length times that of the pattern and no faster, since paths come

@@ -123,7 +123,7 @@ def run_program(
     take: Taker,
 ) -> Answer:
     """Runs the program. A Fault unless its status is one of its own. `descriptors` are those of the
-    databases, 3 and 4, and of the configuration, 5. What it writes goes to `take`."""
+    databases and of the configuration. What it writes goes to `take`."""
     errors = bytearray()
     takers = {1: take, 2: Drain(MAX_ERRORS, errors.extend).take}
     environment = {**os.environ, "LC_ALL": "C"}

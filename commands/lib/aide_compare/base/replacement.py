@@ -78,8 +78,7 @@ class NewFile:
 
 class Replacement:
     """A file that is replaced in one step: others see the former one or the whole new one. Where
-    another user can write in the directory, or in one above it, nothing is written: a command
-    becomes that user before."""
+    another user could replace it too, nothing is written: a command becomes that user before."""
 
     def __init__(
         self,

@@ -56,7 +56,7 @@ def _become(entry: pwd.struct_passwd, groups: Sequence[int]) -> None:
 
 
 def become(entry: pwd.struct_passwd) -> None:
-    """This process becomes a user for good, with the groups and the environment of the user."""
+    """This process becomes a user for good, with the groups and the home of the user."""
     with OSErrorAsFault(f"cannot become {name_of(entry.pw_uid)}"):
         _become(entry, os.getgrouplist(entry.pw_name, entry.pw_gid))
     os.environ.update(HOME=entry.pw_dir or "/", USER=entry.pw_name, LOGNAME=entry.pw_name)

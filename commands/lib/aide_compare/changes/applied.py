@@ -46,7 +46,7 @@ def content_of(file: IO[bytes]) -> FieldsByColumn:
 
 
 def members_of(file: IO[bytes]) -> Iterator[tuple[bytes, FieldsByColumn]]:
-    """The members of a tar file: the path of each, and its fields, none for a device."""
+    """The members of a tar file: the path of each, and its fields, none for a device or a FIFO."""
     try:
         tar = tarfile.open(fileobj=file, mode="r:", encoding="utf-8")
         seen: dict[str, FieldsByColumn] = {}

@@ -1,7 +1,7 @@
 """What the lines of a comparison say of its changes, each with its standing and its severity.
 
-Those that a proved line accounts for are silent, and only counted. All others are in a table: what
-a package's records on this host have is grouped by the package, and the rest is open.
+Those that are silent are only counted. All others are in a table: what a package's records on this
+host have is grouped by the package, and the rest is open.
 """
 from __future__ import annotations
 

@@ -14,7 +14,7 @@ from aide_compare.base.words import SEVERITIES
 from aide_compare.changes.severity import RANKS
 from aide_compare.lines.reader import embedded
 
-# A table of more rows is refused.
+# More changes of one comparison are refused.
 MAX_ROWS = 1000000
 SCHEMA = f"""
 create table changes (

@@ -33,7 +33,7 @@ HINTS = (
 
 def ask_for_key(directory: HostDirectory) -> None:
     """Lets ssh ask on the terminal, as it does for people, if it does not know the key of a host.
-    Nothing is sent: no way to log in is tried."""
+    No key and no password is sent."""
     words = ["ssh", "-n", "-o", "StrictHostKeyChecking=ask", "-o", "PreferredAuthentications=none"]
     with suppress(FileNotFoundError):  # The transfer says so.
         run_here([*words, directory.host], int(directory.seconds), os.environ, is_silent=True)

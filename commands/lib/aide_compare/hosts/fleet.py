@@ -1,7 +1,8 @@
 """The changes of all hosts, in one table: each change once, with the hosts that have it.
 
-Two hosts have the same change if path, kind and type are the same, and the new values too. Values
-that are of one host do not count: times, inodes, and what the file system makes of a file.
+Two hosts have the same change if path, kind, type, severity and the group of its owner are the
+same, and what changed and its new values too. Values that are of one host do not count: times,
+inodes, and what the file system makes of a file.
 """
 from __future__ import annotations
 

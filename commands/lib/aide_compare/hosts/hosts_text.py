@@ -182,7 +182,8 @@ def short_changes(report: Report, height: int) -> Iterator[str]:
 
 
 def short_lines(report: Report) -> Iterator[str]:
-    """Yields the lines of the short text, at most MAX_ROWS of at most MAX_COLUMNS."""
+    """Yields the lines of the short text, at most MAX_ROWS of at most MAX_COLUMNS, but for a long
+    word of the command."""
     summary = report.summary
     lists = host_lists(report.hosts)
     head = note_lines(canary_lines(summary))
