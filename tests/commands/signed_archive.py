@@ -147,8 +147,7 @@ class Place:
         suite: str = "stable",
         **changed: bytes,
     ) -> None:
-        """Writes the index and its signed text; `changed` is another index in place of the
-        signed one."""
+        """Writes the index and its signed text; `changed` is another index in its place."""
         index = "\n".join(built.fields for built in self.built).encode()
         pack: dict[str, Callable[[bytes], bytes]] = {".gz": gzip.compress, ".xz": lzma.compress}
         data = pack[ending](index) if ending else index

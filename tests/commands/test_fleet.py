@@ -257,8 +257,13 @@ class FleetTest(CommandTest):
         self.assertEqual(mode, 0o600)
 
     def test_shared(self) -> None:
-        """A store in which another user can write is refused, also by a link."""
+        """A store in which another user can write is refused, also where its states are."""
         self.needs_root()
+        self.fleet.compare_one("good2")
+        os.chmod(self.path("store/states"), 0o777)
+        said = self.fleet.call("aide-compare hosts list", self.path("one-host"))
+        self.assertIn("good2 18 another user can write", said.output_text)
+        os.chmod(self.path("store/states"), 0o755)
         os.chown(self.path("store/hosts/good1"), 65534, 65534)
         said = self.fleet.compare_one("good1")
         self.assertEqual(said.status, 18, said)

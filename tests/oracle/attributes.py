@@ -87,8 +87,7 @@ def set_of_name(name: bytes, defined: Groups) -> frozenset[str] | None:
 
 
 def expression_fault(text: bytes, defined: Groups) -> str | None:
-    """The kind of the first fault of an expression, or None; of two at one byte the bad byte
-    counts."""
+    """The kind of the first fault of an expression, or None; at one byte the bad byte counts."""
     beginning = BEGINNING.match(text)
     good = beginning.end() if beginning else 0
     faults = []
@@ -101,8 +100,7 @@ def expression_fault(text: bytes, defined: Groups) -> str | None:
 
 
 def meaning_of(text: bytes, defined: Groups) -> frozenset[str]:
-    """The attributes of an expression without a fault: those whose last term that holds them is
-    added."""
+    """The attributes of an expression without a fault: those whose last term adds them."""
     terms = [
         (sign, set_of_name(name, defined) or frozenset()) for sign, name in SIGNED.findall(text)
     ]

@@ -17,8 +17,7 @@ def fields_of(line: bytes) -> list[bytes]:
 
 
 def printed(name: bytes) -> bytes:
-    """A name as it is printed: control bytes and the backslash as a backslash and three octal
-    digits."""
+    """A name as it is printed: control bytes and the backslash by three octal digits."""
     return b"".join(
         b"\\%03o" % byte if byte < 32 or byte in (92, 127) else bytes([byte]) for byte in name
     )

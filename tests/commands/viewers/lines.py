@@ -30,8 +30,7 @@ def proved_lines(program: bytes, configuration: str) -> bytes:
 
 
 def objects_of(text: bytes) -> list[Fields]:
-    """The objects of proved lines, as aide-compare json writes them, with the names that they
-    have."""
+    """The objects of proved lines, as aide-compare json writes them, with their names."""
     NAMELESS.lines = Lines(in_memory(text), False, NOTHING_COUNTED)
     _, *lines = added_lines(NAMELESS, None)
     return [json.loads(line) for line in (text.partition(b"\n")[0], *lines)]

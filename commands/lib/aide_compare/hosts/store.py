@@ -63,9 +63,12 @@ class HostDirectory:
         self.seconds = seconds
         self.deadline = time.monotonic() + seconds
         self.path = f"{store}/hosts/{host}"
-        self.state_path = f"{store}/states/{host}"
-        open_directory(store, make=True).close()
-        for path in (store, f"{store}/hosts", self.path):
+        states = f"{store}/states"
+        self.state_path = f"{states}/{host}"
+        for path in (store, states):
+            open_directory(path, make=True).close()
+            make_private(path)
+        for path in (f"{store}/hosts", self.path):
             make_private(path)
         with ExitStack() as opened:
             self.fd: int = opened.enter_context(open_directory(self.path)).fd
