@@ -149,6 +149,7 @@ CONFIGURATION = [
 for statuses, value, names in (
     ((4, 17), "no", ("grouped", "summarize_changes")),
     ((17, 17), "x", ("ignore_list", "report_attributes")),
+    ((4, 17), "s", ("md5", "I")),
     ((17, 4), "no", ("verbose", "database_gzip", "syslog_format")),
 ):
     CONFIGURATION += [also(f"{name}={value}", statuses, f"{name}={value}") for name in names]

@@ -103,8 +103,7 @@ def opened_as(session: Session, number: int) -> int:
 
 
 def file_of(session: Session, index: int) -> tuple[int, int]:
-    """Which file the call at an index reads, and how many of its bytes were read since it was
-    opened."""
+    """Which file the call at an index reads, and how many of its bytes were read before."""
     opened, taken, calls = 0, 0, session.calls
     for number, call in enumerate(calls[:index]):
         if call.kind == OPEN and call.result == calls[index].descriptor:

@@ -1,5 +1,5 @@
-"""Processes: a program that is run, and work in a child, which holds only what it needs, and is
-ended if it takes too long. No other module starts one."""
+"""Processes: a program that is run, which holds only what it needs, and is ended if it takes too
+long, and work in a child. No other module starts one."""
 from __future__ import annotations
 
 import ctypes
