@@ -1,5 +1,4 @@
-"""What is installed works, and its pages, documents, units and files for cron name what is
-installed."""
+"""What is installed works; its pages, units and files for cron name what is installed."""
 from __future__ import annotations
 
 import hashlib
@@ -171,8 +170,7 @@ class InstalledTest(InstallTest):
             self.assertLessEqual(set(found), wanted, name)
 
     def test_unproved(self) -> None:
-        """A program that is not proved, by its name, marks the version of each command, and is
-        never packed."""
+        """The name of an unproved program marks each command's version; it is never packed."""
         program = self.copied_programs(self.program, "unproved programs", "aide-unproved")
         done = self.install("--destdir", self.path("unproved"), "--program", program)
         self.assertEqual(done.status, 0, done)

@@ -1,5 +1,4 @@
-"""The tarball and the Debian package: the same bytes each time, and what packaging/install
-installs."""
+"""The tarball and the Debian package: the same bytes each time, as packaging/install installs."""
 from __future__ import annotations
 
 import gzip
@@ -74,8 +73,7 @@ def try_tarball(trial: InstallTest, data: bytes, time: int) -> None:
 
 
 def try_unpacking(trial: InstallTest, tarball: str) -> None:
-    """What the help says of the tarball, word for word, with another folder in the place of
-    /usr/local."""
+    """What the help says of the tarball, word for word, with another folder for /usr/local."""
     script = os.path.join(trial.source, "packaging", "make_package")
     help_text = trial.run_words(["sh", script, "--help"]).output_text
     lines = re.findall(r"^ +(?:and to remove it: )?(tar .*)$", help_text, re.M)

@@ -59,8 +59,7 @@ Labelled = tuple[str, list[bytes], tuple[bytes, ...]]
 
 
 def sessions(folder: bytes) -> Iterator[Labelled]:
-    """The labels of the sessions, their words, and the texts of the configuration and of both
-    databases."""
+    """The sessions: labels, words, and the texts of the configuration and of both databases."""
     texts = {
         "a report of all parts": (OLD, NEW, b""),
         "a report of several pages": (OLD, names(LONG), b"report_grouped=no"),

@@ -50,3 +50,8 @@ class RecordedTest(ModuleTest):
             matcher.remaining = BLOCK + room
             self.expect(label, matcher.has(FILE._replace(path=path, new=new), of, {}), fits)
         self.gives(False, matcher.has, FILE._replace(new=strong), own, {})
+        self.gives(False, matcher.has, FILE._replace(type="Directory", kind="changed"), "", {})
+        one = FILE._replace(path=path, new=strong)
+        matcher.remaining = 2 * BLOCK
+        said = [matcher.has(one, own, {}) for _ in range(2)]
+        self.expect("room for one of two", said, [True, False])
