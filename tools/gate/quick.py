@@ -23,6 +23,7 @@ from tools.lib.arguments import parser_of
 
 # The check of the language Python, which reads all files of it and takes most of a minute.
 PYTHON = "tests.source.test_python"
+PYTHON_ENDS = (".py", "commands/bin/aide-compare", "packaging/completions")
 # What compares the options of the commands with the manual.
 OPTIONS_IN_MANUAL = "tests.pages.test_blocks"
 # A change here that no test tries is a failure. What else has no test is a page or a tool.
@@ -99,7 +100,7 @@ def main() -> int:
     names = [] if args.all else changed(args.since, tally)
     modules = set(unit_tests.modules() if args.all else tests_for(names, tally))
     checks = set(unit_tests.modules(unit_tests.SOURCE))
-    if not args.all and not any(name.endswith(".py") for name in names):
+    if not args.all and not any(name.endswith(PYTHON_ENDS) for name in names):
         checks.remove(PYTHON)
     unit_tests.run_all(sorted(checks), tally)
     program = find_program(tally) if modules - checks else None
