@@ -22,7 +22,7 @@ EXPECTED = re.compile(
     "it needs root(, and unshare)?"
     "|it takes long"
     "|not installed: [a-z0-9 -]+"
-    "|nothing can be mounted here"
+    "|nothing can be (mounted|leased) here"
     "|no device can be made here"
     "|there is no address [0-9a-z:.]+ here"
 )
