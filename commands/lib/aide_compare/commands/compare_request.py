@@ -57,7 +57,7 @@ changes.""",
 class CompareRequest(Asked):
     """What the options of a comparison ask for, whatever becomes of it."""
 
-    is_quiet: bool = field(QUIET, help="print neither the report nor a note")
+    is_quiet: bool = field(QUIET, help="print neither the report nor most notes")
     databases: Sequence[str] = field(
         Operand(
             "OLD NEW",

@@ -45,8 +45,8 @@ HELP = Help(
     name="aide-compare mail",
     usage="%(prog)s [OPTIONS] [OLD NEW]",
     description="""\
-Compares as aide-compare does, with its options. Sends a mail of at most 80 lines if a change is not
-silent, or with the errors if nothing was compared.""",
+Compares as aide-compare does. Sends a mail of at most 80 lines if a change is not silent, or with
+the errors if nothing was compared.""",
     epilog="""\
 Status: that of aide-compare-compare(1); 18 if no mail can be sent. With --alarm-sent-is-success
 it is 0 if the mail was sent or kept in the queue.""",

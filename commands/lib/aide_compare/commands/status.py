@@ -72,7 +72,7 @@ CHANGES = {
 class StatusRequest(Asked):
     """What the options ask for."""
 
-    is_quiet: bool = field(QUIET, help="print nothing if a recent result has no difference")
+    is_quiet: bool = field(QUIET, help="of text: print nothing if a recent one has no difference")
     format: str = option("--format", "the form (text)", choices=FORMATS, default="text")
     state: str = field(
         STATE, default=DAILY, help=f"the state file that aide-compare wrote ({DAILY})"
