@@ -136,8 +136,7 @@ class ArchiveTest(ArchiveCase):
 
     def test_known_indexes(self) -> None:
         """Of apt's lists those count that the old database knows, all of them, and for the suite
-        for which they were signed; of a suite, the components that it knows. No other directory has
-        indexes."""
+        for which they were signed; of a suite, the components that it knows; no others."""
         place = self.place
         place.sign()
         keep_as_apt(self, place)
@@ -153,8 +152,9 @@ class ArchiveTest(ArchiveCase):
         self.not_made(b"is signed for another suite than sid", sources=("mirror/dists/sid",))
         keep_indexes(self, f"lists/{SITE}")
         for name in reversed(INDEXES):
-            os.rename(self.path(f"lists/{SITE}{name}"), self.path(f"archives/{SITE}{name}"))
-            self.not_made(f"{name}: No such file".encode(), sources=both)
+            path = self.path(f"lists/{SITE}{name}")
+            os.rename(path, self.path(f"archives/{SITE}{name}"))
+            self.not_made(f"the signed file {path}: No such file".encode(), sources=both)
         shutil.copytree(self.path(SUITE), self.path("archives"), dirs_exist_ok=True)
         os.makedirs(self.path("nothing"))
         for sources in (("archives",), ("nothing",)):

@@ -86,7 +86,8 @@ def copy_signed(path: str, size: int, digest: str) -> int:
     """A private copy of a file that has this size and digest. It may be larger than memory."""
     copy = nameless()
     content = sha256()
-    with closed_after(open_regular(path)) as file, OSErrorAsFault(f"cannot copy {shown(path)}"):
+    file = open_regular(path, "the signed file ")
+    with closed_after(file), OSErrorAsFault(f"cannot copy {shown(path)}"):
         while size >= 0 and (block := os.read(file, BLOCK)):
             size -= len(block)
             content.update(block)
