@@ -1,5 +1,4 @@
-"""Quiet days of many hosts, parts of a database that are accepted, and what is said of a host that
-was not fetched."""
+"""Quiet days of many hosts, accepted parts of a database, and hosts that were not fetched."""
 from __future__ import annotations
 
 import os
@@ -97,8 +96,7 @@ class HostsQuietTest(CommandTest):
         fleet.not_compared(told, said, "h01")
 
     def test_list_and_remove(self) -> None:
-        """All hosts with their last results; and a host that is watched no longer, of which nothing
-        is left."""
+        """All hosts with their results; and a host that is removed, of which nothing is left."""
         fleet = self.prepare(OLD, NEW)
         fleet.compare(fleet.list_hosts("h01", "h02", "h03"))
         hosts = fleet.list_hosts("h01", "h02", "never", "h03")
@@ -116,6 +114,8 @@ class HostsQuietTest(CommandTest):
         self.assertEqual(fleet.call(remove, *words, "never").status, 0, "it was listed")
         said = fleet.call(remove, *words, "h02")
         self.assertEqual((said.status, said.output_text), (18, ""), "nothing is left of it")
+        os.mkdir(self.path("store/hosts/h03/odd"))
+        self.assertEqual((fleet.call(remove, *words, "h03").status, fleet.state("h03")), (18, ""))
         os.remove(self.path("hosts"))
         os.symlink("/etc/passwd", self.path("hosts"))
         self.assertNotEqual(fleet.call(remove, *words, "root").status, 0)

@@ -38,9 +38,9 @@ def remove_directory(host: str, store: str, seconds: int) -> bool:
     if not os.path.lexists(f"{store}/hosts/{host}"):
         return False
     with closing(HostDirectory(store, host, seconds)) as directory:
-        directory.remove_all()
         with OSErrorAsFault(f"cannot remove the state of {host}"), suppress(FileNotFoundError):
             os.unlink(directory.state_path)
+        directory.remove_all()  # Last, since a second run finds by it what is left.
     return True
 
 
