@@ -72,8 +72,8 @@ def refuse_wrong(request: AddRequest, directory: HostDirectory, descriptor: int)
 
 def add(request: AddRequest, host: str) -> int:
     """Fetches from a host, and keeps it if it is the right database: nothing is left of another
-    one, also if a signal ends the question, and nothing of a host that is not watched then. A
-    baseline that is there already is never replaced."""
+    one, also if a signal ends the question, and of a host that is not watched then no more than a
+    lock, after a signal. A baseline that is there already is never replaced."""
     directory = HostDirectory(request.store, host, request.seconds)
     if directory.has(BASELINE):
         raise directory.fault("has a baseline already; nothing was accepted", Status.DATABASE)
