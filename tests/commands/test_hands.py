@@ -20,8 +20,7 @@ NOTES = 'case $1 in -E) echo "$(id -u) $$" >> %s;; esac\nexec %s "$@"'
 
 class HandsTest(CommandTest):
     def prepare(self, lines: str) -> None:
-        """The defaults, a file of what is left out, and a night of four changes; two of them are
-        left out."""
+        """The defaults, a file of what is left out, and four changes, of which two are left out."""
         mail.prepare(self)
         standings.prepare(self)
         self.write("etc/defaults", "# What all have in common\n\n--max-size 1024G\n%s" % lines)

@@ -239,8 +239,7 @@ class HostsReportTest(CommandTest):
         self.assertEqual(reports, ["whole", "unreadable"], found)
 
     def test_hostile_names(self) -> None:
-        """Names that hosts have chosen: in the order of paths, exact in JSON, escaped in the text,
-        and always last in a line."""
+        """Names of hosts: in the order of paths, exact in JSON, escaped, and last in a line."""
         hosts = Hosts(self)
         new = database(*(line(path, path) for path in HOSTILE))
         hosts.compared({"good1": (database(), new), "good2": (database(), new)})
@@ -292,7 +291,14 @@ class HostsReportTest(CommandTest):
         self.assertIn("multipart/", text)
         self.assertIn(f"<title>{title}</title>", text)
         self.assertLess(len(text), 1 << 20)
+        none = self.write("none", b"# None.\n")
+        said = hosts.call("aide-compare hosts report --to root", none)
+        self.assertEqual((said.status, said.output_text), (18, ""))
+        mail = self.read("mail").decode()
+        self.assertRegex(mail, r"(?s)Subject: aide on \S+: no report of hosts\n.*\nno host is in")
         self.stub("sendmail", "exit 75")
+        said = hosts.call("aide-compare hosts report --to root", none)
+        self.assertRegex(said.error_text, r"(?s)cannot send the mail.*\n\S+ hosts report: no host")
         said = hosts.report("--to", "root")
         self.assertEqual(said.status, 18)
         self.assertIn("cannot send the mail: status 75", said.error_text)

@@ -1,5 +1,4 @@
-"""A Debian in a directory: made by mmdebstrap, booted by systemd-nspawn, and commands run
-inside."""
+"""A Debian in a directory: made by mmdebstrap, booted by systemd-nspawn, with commands inside."""
 from __future__ import annotations
 
 import mailbox

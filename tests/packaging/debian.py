@@ -34,8 +34,7 @@ NEEDED = "".join(
 
 
 def try_texts(trial: InstallTest, folder: str) -> None:
-    """What a user of the package reads first: the command of README.Debian, and whose choice the
-    licence is."""
+    """What a user reads first: the command of README.Debian, and whose choice the licence is."""
     found = texts(tree(folder))
     documents = "usr/share/doc/aide-compare/"
     trial.assertIn("choice of their owner", found[documents + "copyright"].replace("\n", " "))

@@ -126,8 +126,7 @@ def try_session(refuser: Refuser, words: list[bytes]) -> dict[str, list[str]]:
 
 
 def definitions_of_each_length() -> bytes:
-    """A configuration with variables, blocks and groups whose names have each length up to the
-    longest."""
+    """A configuration with variables, blocks and groups with names of each length that is taken."""
     lines = [b"Base = p", b"@@define FIRST s"]
     for length in range(1, NAME_LIMIT + 1):
         variable, group = b"v" * length, b"g" * length

@@ -78,8 +78,7 @@ class LineDefinitionsTest(AnswerTest):
             self.add("lists of %d bytes" % length, faults)
 
     def test_members(self) -> None:
-        """Each form of each attribute, at an added entry, at a removed one, and at one that is
-        changed."""
+        """Each form of each attribute, at an added, at a removed and at a changed entry."""
         for column, field, member in line_rows.MEMBERS:
             text = database(column, field)
             other = b"@@begin_db\n@@db_spec name\n/a\n@@end_db\n"

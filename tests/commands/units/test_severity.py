@@ -201,8 +201,7 @@ def level_of(path: bytes, old: Side, new: Side, table: Severity = SHIPPED_TABLE)
 
 class SeverityTest(ModuleTest):
     def test_rights(self) -> None:
-        """What is given to whom decides, wherever it is; and each line of such rights is seen by
-        itself."""
+        """What is given to whom decides, wherever it is; each line of such rights by itself."""
         for label, old, new, wanted in RIGHTS:
             self.expect(f"severity of {label}", level_of(b"/srv/x", old, new), wanted)
             if wanted == "high":

@@ -6,7 +6,7 @@ import os
 from collections.abc import Iterable, Iterator, Sequence
 from functools import partial
 
-from aide_compare.base.ending import write_blocks
+from aide_compare.base.ending import Fault, say, why_of, write_blocks
 from aide_compare.base.escapes import encoded
 from aide_compare.base.options import (
     ATTACH_PAGE,
@@ -34,7 +34,7 @@ from aide_compare.hosts.hosts_file import hosts_of
 from aide_compare.hosts.hosts_read import read_host
 from aide_compare.hosts.hosts_text import Report, headline, report_lines, short_lines
 from aide_compare.hosts.report_values import CUT, UNREADABLE, HostCounts, Summary
-from aide_compare.mail.message import build, clean, within
+from aide_compare.mail.message import build, clean, host_name, within
 from aide_compare.mail.sending import deliver, transport_for
 from aide_compare.show.json_lines import line_of
 
@@ -177,9 +177,24 @@ def request_of(arguments: Sequence[str]) -> ReportRequest:
     return request
 
 
+def send_failure(why: str, request: ReportRequest, address: str) -> None:
+    """Mails why there is no report. If that fails, says so."""
+    title = f"aide on {host_name()}: no report of hosts"
+    try:
+        way = transport_for(f"{title}: {why}", request.mail_seconds)
+        deliver(way, build(address, title, clean(f"{why}\n")))
+    except Fault as fault:
+        say(fault.text)
+
+
 def main(arguments: Sequence[str]) -> int:
     request = request_of(arguments)
-    report = HostsReport(hosts_of(request.hosts_file), request)
+    try:
+        report = HostsReport(hosts_of(request.hosts_file), request)
+    except Exception as error:
+        if request.address:
+            send_failure(why_of(error), request, request.address)
+        raise
     if request.address:
         report.send(request, request.address)
     elif report.is_alarm or not request.is_quiet:
