@@ -67,15 +67,13 @@ class Replacing:
 sys.meta_path.insert(0, Replacing)
 %sexec(compile(text_of("/front"), __file__, "exec"))
 """
-
-
 AS_NOBODY = "os.setgroups([]); os.setgid(%d); os.setuid(%d)" % (NOBODY, NOBODY)
 
 
 def after(before: str | None, command: list[str]) -> list[str]:
     """A command that does something else before it starts. (`preexec_fn` is not safe in a process
     with threads.)"""
-    return [sys.executable, "-c", BECOME % before] + command if before else command
+    return [sys.executable, "-IS", "-c", BECOME % before] + command if before else command
 
 
 HEAD = b"@@begin_db\n@@db_spec name attr perm size\n"
@@ -84,7 +82,6 @@ OLD = HEAD + b"/b 36 40755 4096\n/c 36 100644 10\n/d 36 100644 1\n" + END
 NEW = HEAD + b"/a 36 100644 5\n/c 36 100600 7\n/d 36 100644 2\n" + END
 DIFFER = [b"aide-compare: old database: ", b"aide-compare: new database: "]
 COUNTS = {"added": "1", "removed": "1", "changed": "2"}
-
 
 # A text that an answer has, several of them, or any.
 Texts = Optional[Union[bytes, "list[bytes]"]]

@@ -18,8 +18,6 @@ from .test_hosts_report import Hosts, database, four_hosts, line
 from .test_sorting import MEASURE
 
 SHELL = ["sh", "-c"]
-
-
 PAIR = ("good1", "good2")
 COMPARED = "7 added 1, removed 1, changed 2: 4 open of 4 changes"
 # What a process may take beside the interpreter and the modules of the command.
@@ -55,7 +53,7 @@ def bombs() -> dict[str, bytes]:
 
 def measured(fleet: Fleet, *words: str) -> tuple[int, str, int]:
     """The status and the output of a comparison, and the most memory of a process of it, in kB."""
-    before = [sys.executable, "-c", MEASURE]
+    before = [sys.executable, "-IS", "-c", MEASURE]
     done = fleet.call("aide-compare hosts compare", *words, before=before)
     return done.status, done.output_text, int(done.errors.split()[-1])
 
@@ -68,7 +66,7 @@ class HostsEndsTest(CommandTest):
         new = database(*(line(b"/n%04d" % number, b"%d" % number) for number in range(200)))
         hosts.compared({"first": (database(), new)})
         sizes = []
-        few = [*SHELL, 'ulimit -n 40; exec "$@"', "sh", sys.executable, "-c", MEASURE]
+        few = [*SHELL, 'ulimit -n 40; exec "$@"', "sh", sys.executable, "-IS", "-c", MEASURE]
         for count in (30, 300):
             hosts.copies("first", ["h%d-%d" % (count, number) for number in range(count)])
             said = hosts.report("--format=json", before=few)

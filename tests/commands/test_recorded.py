@@ -298,7 +298,7 @@ class ManyTest(CommandTest):
 
     def peak(self, *words: str) -> int:
         """The most memory of a process of a command, in kB."""
-        measured = [sys.executable, "-c", MEASURE, *self.command("aide-compare", *words)]
+        measured = [sys.executable, "-IS", "-c", MEASURE, *self.command("aide-compare", *words)]
         done = subprocess.run(
             measured, cwd=self.root, env=self.environment(), capture_output=True, check=False
         )

@@ -140,7 +140,7 @@ class SortingTest(CommandTest):
 
     def measured(self, text: bytes, *words: str) -> Answer:
         """The answer of a command that takes no more than 64 MB."""
-        answer = self.sort(text, *words, before=[sys.executable, "-c", MEASURE])
+        answer = self.sort(text, *words, before=[sys.executable, "-IS", "-c", MEASURE])
         self.assertLess(int(answer.errors.split(b"memory ")[-1]), 64000, answer)
         return answer
 

@@ -151,7 +151,7 @@ class StatusTest(StateTest):
         os.mkdir(folder)
         os.chown(folder, NOBODY, NOBODY)
         command = Forked(self, METRICS)
-        words = [sys.executable, "-c", LINKS, folder, prey]
+        words = [sys.executable, "-IS", "-c", LINKS, folder, prey]
         attacker = subprocess.Popen(words, stdout=subprocess.PIPE)
         try:
             assert attacker.stdout
