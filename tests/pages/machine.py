@@ -79,18 +79,21 @@ class MachineTest(ScratchTest):
             os.chmod(self.path(name), 0o1777)
         apart.forget_user("_aide", self.root)
         shutil.copytree(installed(self.program), self.path("/usr/local"), True, dirs_exist_ok=True)
-        for directory, _, names in os.walk(self.path("/usr/local")):
-            for name in names:
-                self.put_below(os.path.join(directory, name))
+        tree = os.walk(self.path("/usr/local"))
+        paths = [os.path.join(directory, name) for directory, _, names in tree for name in names]
+        compile_modules(*filter(self.put_below, paths))
         self.put_stubs()
 
-    def put_below(self, path: str) -> None:
-        """The directories that an installed text names are those below the root."""
+    def put_below(self, path: str) -> bool:
+        """An installed text names directories below the root. Returns whether a module changed."""
         with open(path, "rb") as file:
             text = file.read()
-        if b"\0" not in text and not os.path.islink(path):
+        is_text = b"\0" not in text and not os.path.islink(path)
+        changed = self.below(text.decode()).encode() if is_text else text
+        if changed != text:
             with open(path, "wb") as file:
-                file.write(self.below(text.decode()).encode())
+                file.write(changed)
+        return changed != text and path.endswith(".py")
 
     def put_stubs(self) -> None:
         """The commands of the machine that the tools call: what they are given is kept."""
@@ -215,8 +218,7 @@ class MachineTest(ScratchTest):
         return found.group(1) if found else ""
 
     def clone(self) -> str:
-        """A directory with what the commands of a clone use: the examples, and both programs where
-        the build leaves them."""
+        """What the commands of a clone use: examples, and programs where the build leaves them."""
         place = self.path("/tmp/clone")
         for name in ("aide", "aide_lines"):
             built = os.path.join(place, "crates", name, "out")
