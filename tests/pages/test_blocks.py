@@ -11,6 +11,7 @@ import subprocess
 import sys
 import unittest
 
+from tests.commands.sandbox import compiled_commands
 from tests.lib.scratch import TOP, read
 from tests.pages.blocks import MANUALS, Block, blocks_of, plain
 from tests.pages.machine import HOSTS, STATE, STORE, MachineTest
@@ -23,7 +24,6 @@ NEW = HEAD + "/a 100644 5 MA== 4\n/c 100646 10 MA== 2\n/d 100600 1 MQ== 5\n@@end
 FRESH = ("/tmp", "/root", "/srv/aide", "/etc/aide-compare", "/var/lib/aide", STORE)
 # Their messages and options are those of the program, which tests/pages/test_manual.py tries.
 OF_THE_PROGRAM = ("man/aide-compare-program.8", "man/aide-compare.conf.5", "man/aide-compare.1")
-FRONT = os.path.join(TOP, "commands", "bin", "aide-compare")
 # check_aide_compare is the command under its other name.
 CHECK = (
     "import sys; sys.path.insert(0, sys.argv[1]); from aide_compare.commands.status import check; "
@@ -186,10 +186,14 @@ def commands_of(page: str) -> list[list[str]]:
     """The words of each command that a page is about."""
     name = os.path.basename(page).rpartition(".")[0]
     if name == "check_aide_compare":
-        return [[sys.executable, "-c", CHECK, os.path.join(TOP, "commands", "lib")]]
+        return [[sys.executable, "-IS", "-c", CHECK, os.path.join(compiled_commands(), "lib")]]
     if name == "aide-compare-hosts":
-        return [[FRONT, "hosts", word] for word in "add list remove compare accept report".split()]
-    return [[FRONT, *name.split("-", 3)[2:]]]
+        return [[front(), "hosts", one] for one in "add list remove compare accept report".split()]
+    return [[front(), *name.split("-", 3)[2:]]]
+
+
+def front() -> str:
+    return os.path.join(compiled_commands(), "bin", "aide-compare")
 
 
 def listed_by(command: list[str]) -> set[str]:
@@ -226,18 +230,17 @@ class WordsTest(unittest.TestCase):
             entries = re.findall(r"^\.It (Fl .*)$", read(page).replace("\\\n", ""), re.M)
             named = {name for entry in entries for name in named_in(entry)} - in_each
             listed = set().union(*map(listed_by, commands_of(page))) - in_each
-            more = listed_by([FRONT, *ALSO[page]]) if page in ALSO else set()
+            more = listed_by([front(), *ALSO[page]]) if page in ALSO else set()
             with self.subTest(page):
                 self.assertGreater(len(listed), 1)
                 is_comparison = os.path.basename(page) in COMPARISONS
-                others = listed_by([FRONT, "compare"]) if is_comparison else set()
+                others = listed_by([front(), "compare"]) if is_comparison else set()
                 self.assertLessEqual(listed - others, named)
                 self.assertLessEqual(named, listed | more)
                 self.assertLessEqual({name for name in listed if len(name) > 2}, tried)
 
     def test_defaults(self) -> None:
-        """The pages of a comparison and of its mail name the options that the administrator's file
-        may have."""
+        """The pages of a comparison and its mail name the options of the administrator's file."""
         code = (
             "import sys; sys.path.insert(0, sys.argv[1]); from aide_compare.base import options; "
             "print(*(option.name for option in getattr(options, sys.argv[2])))"
@@ -246,8 +249,8 @@ class WordsTest(unittest.TestCase):
             ("compare", "COMPARISON_DEFAULTS", "\ntakes\n", "from there"),
             ("mail", "MAIL_DEFAULTS", "also come\n", "\nis without"),
         ):
-            library = os.path.join(TOP, "commands", "lib")
-            words = [sys.executable, "-c", code, library, table]
+            library = os.path.join(compiled_commands(), "lib")
+            words = [sys.executable, "-IS", "-c", code, library, table]
             done = subprocess.run(words, stdout=subprocess.PIPE, check=True, text=True)
             page = read(f"man/aide-compare-{name}.1").partition(".Sh DEFAULTS\n")[2]
             text = page.partition(begin)[2].partition(end)[0]
