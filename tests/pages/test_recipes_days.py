@@ -139,6 +139,7 @@ class QuietTest(RecipesTest):
         for line in self.text_at("/etc/aide/aide.conf.d/31_aide_aide-compare").splitlines():
             if line and not line.startswith("#"):
                 pattern, kind = line.lstrip("!").split()[:2]
+                self.assertTrue("/daily/" not in pattern or line[0] == "!" or "ANF" in line, line)
                 rules.append((kind, re.compile(pattern.replace("\\\\", "\\"))))
         self.put_night(INTRUDER)
         self.shell(self.unit_commands()[0])
@@ -162,8 +163,7 @@ class QuietTest(RecipesTest):
         self.assertEqual(done.output_text, "yes  update\n")
 
     def test_owner(self) -> None:
-        """The first comparison was root's, and the databases belong to another user: the job of
-        cron can still write."""
+        """The databases are another user's after a comparison of root's: cron can still write."""
         self.needs_root()
         self.put_night(INTRUDER)
         self.assertEqual(self.run_words(["aide-compare", "--state", self.path(STATE)]).status, 7)
