@@ -128,9 +128,9 @@ class HostsTest(RecipesTest):
     def test_playbook(self) -> None:
         """If a watched host fails, no play writes the collecting host's files, which name it."""
         plays = self.above(self.example("fleet/playbook.yaml")).split("\n- name: ")
-        watched = [play for play in plays if "\n  hosts: watched\n" in play]
-        self.assertEqual(len(watched), 1)
-        self.assertIn("\n  any_errors_fatal: true\n", watched[0])
+        (watched,) = [play for play in plays if "\n  hosts: watched\n" in play]
+        self.assertIn("\n  any_errors_fatal: true\n", watched)
+        self.assertEqual(plays[-1].count("        force: false\n"), 2, "edited files stay")
 
     def test_jobs(self) -> None:
         """The line of cron and the service of the timer run the same commands."""
