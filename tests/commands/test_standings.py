@@ -219,7 +219,7 @@ class StandingsTest(mail.MailTest):
         told = [cause, b"5 open (1 high)"]
         self.expect("records that others can write", answer, 7, b"5 open (1 high) of 6", told)
         os.chmod(self.path("dpkg"), 0o755)
-        self.after_import("changes.packages", UNNAMED)
+        self.after_import("changes.judged", UNNAMED)
         answer = self.call(TOOL, "o.db", "n.db")
         told = [b"no package groups the changes: out of memory", b"5 open (1 high)"]
         self.expect("records that fail late", answer, 7, b"5 open (1 high) of 6", told)

@@ -7,14 +7,16 @@ from __future__ import annotations
 
 import json
 import os
+import re
 from collections import Counter
 from collections.abc import Iterator
 from functools import cached_property
 from itertools import islice
 
 from aide_compare.base.ending import Fault, Status
+from aide_compare.base.escapes import shown
 from aide_compare.base.words import SEVERITIES, status_of_counts
-from aide_compare.changes.packages import Dpkg, Rpm, named_packages
+from aide_compare.changes.packages import Dpkg, Rpm
 from aide_compare.changes.recorded import Matcher
 from aide_compare.changes.severity import RANKS, Severity
 from aide_compare.changes.table import RECORDED, Marks, Row, Table, Values
@@ -23,6 +25,10 @@ from aide_compare.lines.change import Change, Counts, Standing, change_of
 from aide_compare.lines.reader import Form, Forms, Reader
 
 RECORDED_LEVELS = f"select level, count(*) from changes where {RECORDED} group by 1"
+# The titles above the packages that people hear of first.
+TITLES = ("Unsigned packages", "New packages", "Removed packages")
+# The files of a package among dpkg's records.
+NAMING = re.compile(rb".*/([A-Za-z0-9][A-Za-z0-9+.-]*)(?::[a-z0-9-]+)?\.(list|md5sums)")
 
 
 class Judged:
@@ -134,3 +140,22 @@ class Judged:
     def read(self, row: Row) -> Change:
         """The values of a change, as its line has them."""
         return change_of(json.loads(self.line(row.line_at, row.line_size)))
+
+
+def named_packages(changes: Table, has_pair: bool) -> dict[str, list[str]]:
+    """The packages whose list came, whose list or digests went, and, beside a trusted pair, whose
+    digests are not as in it: by their titles, in the order in which people read them."""
+    named: dict[str, dict[str, None]] = {title: {} for title in TITLES}
+    unsigned, new, removed = named.values()
+    for row in changes.below(b"/var/lib/dpkg/info"):
+        if match := NAMING.fullmatch(row.path):
+            name = shown(match[1], 100)
+            if row.kind == "removed":
+                removed[name] = None
+            elif has_pair and match[2] == b"md5sums":
+                unsigned[name] = None
+            elif row.kind == "added" and match[2] == b"list":
+                new[name] = None
+    for name in unsigned:
+        new.pop(name, None)
+    return {title: list(names) for title, names in named.items() if names}
