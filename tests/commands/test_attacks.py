@@ -125,8 +125,7 @@ class AttacksTest(CommandTest):
             self.assertNotIn(b"a fault of this command", answer.errors)
 
     def test_links(self) -> None:
-        """A link of another user is followed nowhere; one of root's is, where no other user could
-        have put it."""
+        """A link of another user is followed nowhere; one of root's is, where it is safe."""
         self.needs_root()
         self.write("his/new.db", NEW)
         self.write("secret/new.db", NEW, 0o600)

@@ -36,8 +36,7 @@ class FaultsTest(CommandTest):
         return away
 
     def test_limits(self) -> None:
-        """A database has as many bytes as --max-size allows, and no process takes or writes many
-        more of one without end."""
+        """No process takes or writes many more bytes of a database than --max-size allows."""
         most = max(len(OLD), len(NEW))
         for new in ("new.db", "new.db.gz"):
             self.answered(7, None, DIFFER, TOOL, "--max-size", str(most), "old.db", new)

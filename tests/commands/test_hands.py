@@ -100,8 +100,7 @@ class HandsTest(CommandTest):
             self.answered(3, told, b"", NAGIOS, "--state", "of.state")
 
     def test_faulty_defaults(self) -> None:
-        """Defaults that others can write are refused as the file of --exclude-from is, and no alarm
-        is lost for it."""
+        """Defaults that others can write are refused, as the list is, and no alarm is lost."""
         cases: list[tuple[int, int, int]] = [(0o666, 0, 0o755), (0o664, 0, 0o755)]
         with self.subTest("another user's places"):
             self.needs_root()

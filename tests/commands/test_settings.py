@@ -41,6 +41,9 @@ class SettingsTest(CommandTest):
         self.assertIn(TOLD, mail.subject(mail.sent(self)))
         counts = self.state()
         self.assertEqual((counts["open"], counts["changed"]), ("5", "5"))
+        self.write("etc/defaults", "--config aide.conf\n")
+        said = b"this option cannot be a default: --config aide.conf"
+        self.refused(15, said, "aide-compare", "aide.db", "aide.db.new")
         own = os.path.join(self.root, "lib", "aide_compare")
         named = set()
         for above, _, files in os.walk(own):

@@ -245,7 +245,7 @@ NO_DEFAULTS = Option("--no-defaults", "do not read the defaults in /etc/aide-com
 
 # The options of a comparison that may stand in the file of defaults, those of them that are for the
 # databases of this machine only, those of a mail, and those of a check.
-COMPARISON_DEFAULTS = (DATABASES, CONFIG, MAX_SIZE, MAX_AGE, EXCLUDE_FROM, EXCLUDE, TRUSTED, STATE)
+COMPARISON_DEFAULTS = (DATABASES, MAX_SIZE, MAX_AGE, EXCLUDE_FROM, EXCLUDE, TRUSTED, STATE)
 MACHINES_DEFAULTS = (DATABASES, TRUSTED, STATE)
 MAIL_DEFAULTS = (TO, MAIL_TIME, ATTACH_PAGE, WEEKLY)
 CHECK_DEFAULTS = (WARNING, CRITICAL, STATE)
