@@ -90,8 +90,7 @@ class TextsTest(MailTest):
         self.assertEqual(subject(self.mail("--test", status=0)), SUBJECT + "test")
 
     def test_weekly(self) -> None:
-        """A heartbeat comes once on its day, or a week after the last one, and says what the last
-        comparison has found."""
+        """A heartbeat comes once on its day, or a week after the last: the last result, notes."""
         now = time.time()
         day, other = (time.strftime("%a", time.localtime(now + more)) for more in (0, 2 * 86400))
         words = ["old.db", "old.db.gz", "--state", "weekly.state", "--weekly"]
@@ -99,7 +98,7 @@ class TextsTest(MailTest):
             self.assertIsNone(self.mail(*words, other, status=0), "on another day")
         message = self.mail(*words, day, status=0)
         self.assertEqual(subject(message), SUBJECT + "nothing to read")
-        self.assertEqual(body(message), b"The last comparison: no difference.\n")
+        self.assertRegex(body(message), rb"\AThe last comparison: no difference.\naide-.* equal")
         self.assertIsNone(self.mail(*words, day, status=0), "only once a day")
         kept = self.path("weekly.state.quiet")
         for label, its_day, seconds in (
@@ -107,8 +106,9 @@ class TextsTest(MailTest):
             ("later than now, by a clock that was ahead", day, now + 86400),
         ):
             os.utime(kept, (seconds, seconds))
-            message = self.mail(*words, its_day, status=0)
+            message = self.mail("-A", "report_ignore_changed_attrs=p+u", *words, its_day, status=0)
             self.assertEqual(subject(message), SUBJECT + "nothing to read", label)
+            self.assertIn(b"\naide-compare: report_ignore_changed_attrs leaves 2 ", body(message))
             self.assertLess(abs(os.stat(kept).st_mtime - time.time()), 60, "the time of now")
         os.utime(kept, (now - 6 * 86400,) * 2)
         self.assertIsNone(self.mail(*words, other, status=0), "less than a week ago")

@@ -211,8 +211,8 @@ def send_heartbeat(path: str, day: str, send: Callable[[], object]) -> None:
             file.commit(())
 
 
-def compared(request: MailRequest) -> tuple[State, bytes]:
-    """Compares, and puts the mail together."""
+def compared(request: MailRequest) -> tuple[State, bytes, list[str]]:
+    """Compares, and puts the mail together, and what a heartbeat says beside the result."""
     before = columns_before(request)
     mail: list[bytes] = []
     try:
@@ -220,11 +220,11 @@ def compared(request: MailRequest) -> tuple[State, bytes]:
             raise request.fault
         row = Row(mail.extend, partial(message_of, request, before), of_failure=True)
         ended = ComparisonJob(request, after=[row]).carry_out()
-        return ended.state(), b"".join(mail)
+        return ended.state(), b"".join(mail), notes_of(request, ended)
     except (Fault, MemoryError, OSError) as error:
         keep_failure(request.state, error)
         comparison = failed_comparison(error)
-        return comparison.state(), b"".join(message_of(request, before, comparison, None))
+        return comparison.state(), b"".join(message_of(request, before, comparison, None)), []
 
 
 def columns_before(request: MailRequest) -> Sequence[str] | None:
@@ -237,7 +237,7 @@ def columns_before(request: MailRequest) -> Sequence[str] | None:
 
 
 def compare_and_mail(request: MailRequest) -> int:
-    state, message = compared(request)
+    state, message, notes = compared(request)
     news = subject_of(state) if state.status else "no difference"
     try:
         way = transport_for(news, request.seconds, request.queue)
@@ -246,7 +246,9 @@ def compare_and_mail(request: MailRequest) -> int:
     if message:
         deliver(way, message)
     elif request.weekly and request.state:
-        text = f"The last comparison: {result_text(state)}.\n"
+        from aide_compare.mail.columns import note_lines
+
+        text = "\n".join((f"The last comparison: {result_text(state)}.", *note_lines(notes), ""))
         message = short_mail(request, "nothing to read", text)
         send_heartbeat(f"{request.state}.quiet", request.weekly, partial(deliver, way, message))
     if request.sent_is_success:
