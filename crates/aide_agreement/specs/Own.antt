@@ -15,7 +15,7 @@ abbrev pub own_attrs : List Attr
 own_attrs = attr.Atime ∷ attr.Mtime ∷ attr.Ctime ∷ attr.Inode ∷ attr.Bcount ∷ []
 
 -- What a machine has of its own in a directory too: its size, which depends on the file system. The link count does
--- not: it is the number of subdirectories and two, so it shows one that no entry names.
+-- not: on most file systems it is the number of subdirectories and two, so it shows one that no entry names.
 abbrev pub directory_attrs : List Attr
 directory_attrs = attr.Size ∷ []
 

@@ -26,7 +26,7 @@ use std::alloc::Allocator;
 /// - If the old text is not sound, its first fault is returned and nothing is written.
 /// - If only the new text is not sound, its first fault is returned and nothing is written.
 /// - At no moment does the desk hold more bytes than the longest line of each text and one more line
-///   no longer than these, unless it held more before the call.
+///   as long as the longer of these, unless it held more before the call.
 /// - After `Ok` all openings of a database gave bytes of one SHA-256, whatever each of them gave: a
 ///   comparison of a database that changed while it was read never ends with `Ok`.
 ///

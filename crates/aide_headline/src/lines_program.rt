@@ -31,8 +31,8 @@ use std::alloc::Global;
 ///   list and to the SHA-256 of its text. Otherwise the first fault is named, in the order old, new, trusted old,
 ///   trusted new, and a beginning of what comes before the last line has gone out (`answer`). No faulty line and no
 ///   line after it has a part in this beginning (`early` of `BeginsOverTexts`).
-/// - Neither desk holds more than the longest line of each text of its pair and one more line no longer than these
-///   (`bound`, `trusted_bound`).
+/// - Neither desk holds more than the longest line of each text of its pair and one more line as long as the longer
+///   of these, unless it held more before (`bound`, `trusted_bound`).
 ///
 /// What is promised beyond this is in the contract of [`lines_session_on`].
 pub fn run_lines_program<S: Site, W: Sink, E: Sink>(

@@ -23,7 +23,7 @@ use std::alloc::Global;
 ///
 /// - If no device counts a failure, the program ends with the answer over these texts. That is the
 ///   report, the lines on standard error and the status; or no output, the line of the first fault
-///   and the status 24. Or memory runs out: then there is no output, and the status is 22.
+///   and the status 24. Or there is no output, and the status is 22.
 /// - The desk holds no more than [`compare_databases`](crate::compare_databases) says.
 /// - After a status of at most 7 all openings of a database gave bytes of one SHA-256, whatever each of
 ///   them gave.

@@ -12,7 +12,7 @@ use Rattle.aide_left_out.specs.Settings.{is_setting}
 use Rattle.aide_left_out.specs.Writers.{opens_directory}
 use Rattle.aide_left_out.specs.declared.change.Measures.{Measures}
 
--- no path of a file on Linux is longer
+-- Linux opens no file by a longer path
 abbrev pub longest_path : ℕ
 longest_path = 4096
 

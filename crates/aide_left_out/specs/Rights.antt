@@ -43,7 +43,7 @@ is_root (Some (pos user)) = user == 0
 is_root (Some (negsuc user)) = false
 is_root None = false
 
--- some user has a permission, or the owner is not root and may set one
+-- some user has a permission, or the owner is not known to be root and may set one
 abbrev pub is_within_reach : ℕ → (owner : Option ℤ) → Bool
 is_within_reach mode owner = not (mode % 512 == 0) || not (is_root owner)
 

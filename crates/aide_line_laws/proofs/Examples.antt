@@ -67,7 +67,7 @@ directory mode size links =
 abbrev pub link : Option (List ℕ) → Attributes
 link target = entry ((Ftype, type_value SymbolicLink) ∷ (Lname, link_value target) ∷ [])
 
--- a database with two entries; what follows its end line is not read
+-- a database with two entries; what follows its end line is no entry
 abbrev pub two_entries : List ℕ
 two_entries = codes "@@begin_db\n@@db_spec name attr size\n# x\n/a 32 5\n/b%20c 0 5\n@@end_db\n/d 32 5\n"
 

@@ -26,7 +26,7 @@ text_of json = None
 abbrev pub bytes_of : Json → Option (List ℕ)
 bytes_of json = option_and_then (λ digits. result_ok (decode_of digits)) (text_of json)
 
--- the text under a name: that of the string there; if there is none, the bytes under the name for base 16
+-- the text under a name: that of the string there; if there is no value, the bytes under the name for base 16
 abbrev pub text_under : List ℕ → List Field → Option (List ℕ)
 text_under name fields = elim (value_under name fields) [
   | Some json ↦ text_of json

@@ -147,7 +147,7 @@ pub record LeavesPair (limits : Limits) (p : PairSeen) : Type 0 where
   -- the most that was ever held on the desk does not fall, and rises at most to three lines as long as the limit
   pub peak : p.desk_before.peak ≤ p.desk_after.peak
   pub below : p.desk_after.peak ≤ max p.desk_before.peak (3 * limits.line)
-  -- and at most to the longest line of each text and one more line no longer than these
+  -- and at most to the longest line of each text and one more line as long as the longer of these
   pub bound : (old new : List ℕ) → Gives p old new → p.desk_after.peak ≤ max p.desk_before.peak
       (three_lines (longest_line limits old) (longest_line limits new))
   -- the reserved room stays

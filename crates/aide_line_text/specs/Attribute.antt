@@ -1,4 +1,4 @@
--- The attributes of an entry as the members of an object, with their exact values.
+-- The attributes of an entry as the members of an object, with their exact values, but for types without a name.
 use Rattle.std.specs.Prelude.{ℕ, ◌&&◌, Bool, List, Option, Some, None, is_some, map, codes}
 use Rattle.std.specs.List.{filter}
 use Rattle.aide_attr.specs.Attr.{all_attrs, detail_name_of, form_of}

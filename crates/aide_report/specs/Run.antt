@@ -89,7 +89,7 @@ pub record IsRun (limits : Limits) (asked : Asked) (a b : Seen) (d e : DeskView)
   pub opens_first : IfErr result (OpensFirst a.openings b.openings)
   -- The greatest number of bytes ever held on the desk does not fall, and rises at most to three lines as long as the
   -- limit. If each opening gives the same bytes, it rises at most to the longest line of each text and one more line
-  -- no longer than these.
+  -- as long as the longer of these.
   pub peak : d.peak ≤ e.peak
   pub below : e.peak ≤ max d.peak (3 * limits.line)
   pub bound : (old new : List ℕ) → a.bytes_of Old ≡ Some old → a.bytes_of New ≡ Some new

@@ -11,8 +11,8 @@ use aide_words::Memory;
 use std::alloc::Global;
 use std::marker::Model;
 
-/// The number of bytes of a page. It is more than the longest line about a database: a path has at
-/// most 4,096 bytes, and each is printed as at most four.
+/// The number of bytes of a page. It is more than the longest line about a database that the
+/// configuration names: such a path has at most 4,096 bytes, each printed as at most four.
 const PAGE: usize = 32_768;
 
 /// Gathers bytes in a page of 32,768 bytes. A write that finds the page full, and a flush, pass the

@@ -34,13 +34,13 @@ summary_title = codes "\nSummary:\n"
 unfoldable pub number_line : List ℕ → ℕ → List ℕ
 number_line label n = label ++ ended (decimal n)
 
--- the first two lines of the summary
+-- the lines of the first two numbers
 unfoldable pub first_numbers : (total added : ℕ) → List ℕ
 first_numbers total added =
     number_line (codes "  Total number of entries: ") total
     ++ number_line (codes "  Added entries:           ") added
 
--- the last two lines of the summary
+-- the lines of the last two numbers
 unfoldable pub last_numbers : (removed changed : ℕ) → List ℕ
 last_numbers removed changed =
     number_line (codes "  Removed entries:         ") removed
