@@ -1,4 +1,4 @@
-//! What accounts for a change: an entry that the new one agrees with.
+//! What accounts for a change: an entry that agrees, of the old database or of a trusted machine.
 #![tactic(auto)]
 
 mod account;

@@ -32,15 +32,15 @@ others_write entry = others_write_by (mode_in (entry Perm))
 abbrev pub is_kept : (before after : Attributes) → Attr → Bool
 is_kept before after a = not (is_affected (sides_between before after) a)
 
--- The same users may write a directory as before. Its owner is the same and, if others may write
+-- No user may write a directory who could not before: its owner is the same and, if others may write
 -- it, so are its permissions, group and access list.
 abbrev pub keeps_writers : (before after : Attributes) → Bool
 keeps_writers before after = is_kept before after Uid
     && (not (others_write after)
     || (is_kept before after Perm && (is_kept before after Gid && is_kept before after Acl)))
 
--- A directory has new writers. If it was a directory before, its writers are not the same. Otherwise others than its
--- owner may write it.
+-- A directory may have new writers. If it was a directory before, its owner, or what decides on others who may write
+-- it, is not the same. Otherwise others than its owner may write it.
 abbrev pub gains_writers : Option Attributes → (after : Attributes) → Bool
 gains_writers None after = is_directory after && others_write after
 gains_writers (Some before) after = is_directory after

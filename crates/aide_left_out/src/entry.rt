@@ -56,7 +56,7 @@ fn is_root(user: Option<i128>) -> bool
     }
 }
 
-/// Returns whether somebody has a permission, or its owner may give himself one.
+/// Returns whether somebody has a permission, or its owner, not known to be root, may give himself one.
 fn is_within_reach(mode: u16, owner: Option<i128>) -> bool
     ensures { result ≡ is_within_reach mode owner }
 {

@@ -9,7 +9,7 @@ ghost use Rattle.aide_left_out.specs.Settings.{is_at, is_setting};
 use aide_entry::{Decoded, View};
 use aide_patterns::Exclusions;
 
-/// No path of a file on Linux is longer.
+/// Linux opens no file by a longer path.
 const LONGEST: usize = 4096;
 
 /// Returns whether a field may have an escape.

@@ -43,7 +43,7 @@ fn affected(before: &View<'_>, after: &View<'_>) -> AttrSet
     delta.old.union(delta.new).minus(same)
 }
 
-/// Returns whether the same may write a directory that was one before.
+/// Returns whether no other may write a directory that was one before.
 fn keeps_writers(before: &View<'_>, after: &View<'_>) -> bool
     ensures { result ≡ keeps_writers (entry_in before.now).1 (entry_in after.now).1 }
 {
@@ -53,7 +53,7 @@ fn keeps_writers(before: &View<'_>, after: &View<'_>) -> bool
             || (!affected.has(Attr::Perm) && !affected.has(Attr::Gid) && !affected.has(Attr::Acl)))
 }
 
-/// Returns whether an entry is that of a directory which somebody may write who could not before.
+/// Returns whether an entry is that of a directory that others than a new owner may write and perhaps could not before.
 fn gains_writers(before: Option<View<'_>>, after: &View<'_>) -> bool
     ensures { result ≡ gains_writers (found before.entry) (entry_in after.now).1 }
 {

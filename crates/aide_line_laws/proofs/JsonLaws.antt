@@ -45,7 +45,7 @@ use Rattle.aide_line_laws.proofs.ReadingLaws.{chosen, no_change_is_the_end, past
 use Rattle.aide_line_laws.proofs.TextLaws.{IsChangeOfBytes, all_lines_are_json, begun_bytes, changes_bytes, lines_both, one_line}
 use Rattle.aide_line_laws.proofs.TextLaws.{sha256_bytes}
 
--- the configured paths of a pair are of bytes
+-- the paths of a pair are of bytes
 abbrev pub ArePathsOfBytes : Asked → Type 0
 ArePathsOfBytes asked = AreBytes asked.old_path × AreBytes asked.new_path
 
@@ -95,7 +95,7 @@ all_accounted_are_json options (each ∷ all) h =
 
 -- ---- what is read back
 
--- In the first line what is under each name is the configured path.
+-- In the first line what is under each name is the path of that database.
 pub paths_are_read_back : (old_path new_path trusted_old trusted_new : List ℕ) → AreBytes old_path → AreBytes new_path
     → AreBytes trusted_old → AreBytes trusted_new
     → (text_under (codes "old") (opening_fields_trusted old_path new_path trusted_old trusted_new) ≡ Some old_path)

@@ -41,7 +41,7 @@ by_trusted leaves trusted_old trusted_new change =
     account_by (same_as change.1 (get trusted_old change.0, get trusted_new change.0))
     (leaves change)
 
--- the first line: the configured paths of all four databases
+-- the first line: the paths of all four databases
 abbrev pub first_line : (asked trusted : Asked) → List ℕ
 first_line asked trusted = opening_line asked.old_path asked.new_path
     trusted.old_path trusted.new_path
@@ -92,8 +92,8 @@ lines_of_texts list asked trusted old new trusted_old trusted_new = record {
 }
 
 -- A beginning of the first line and the lines of these changes has been written, with an account or none for each
--- change. If the changes are in path order, the accounts come from the changes of the trusted pair at their paths, or
--- from the list.
+-- change. If the changes are in path order, the accounts come from the two entries, the changes of the trusted pair at
+-- their paths, or the list.
 pub record BeginsLines (leaves : Leaves) (asked trusted : Asked)
     (changes trusted_changes : List PathChange)
     (before after : Option (List ℕ)) : Type 0 where

@@ -101,7 +101,7 @@ pub(crate) fn compare<S: Sources, A: Allocator + Copy>(
 ///   time has sent nothing, unless a write failed.
 /// - If the sources say that a side is missing, nothing is written, and the answer is [`RunFault::Open`]: of the old
 ///   side, or of the new one after a sound old text. The first fault of the old text comes before a missing new side.
-/// - A fault has a cause: a device that failed, the first fault of a text (the old one's
+/// - A fault other than out of memory has a cause: a device that failed, the first fault of a text (the old one's
 ///   before the new one's), or a side that no longer gives what it first gave. After the first reading of a side, a
 ///   fault of its text or another digest is [`RunFault::Changed`]. A side whose openings all agree is never called
 ///   changed. After `Ok` all openings of a side gave bytes of one SHA-256.

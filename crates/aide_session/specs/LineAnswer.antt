@@ -39,7 +39,7 @@ trusted_of job = record {
 -- No more than a beginning of what comes before the last line has been written, over four texts, sound or not.
 pub record BeginsOverTexts (list : ListRead) (asked trusted : Asked) (texts : FourTexts)
     (before after : Option (List ℕ)) : Type 0 where
-  -- by the changes of all entry lines, each with what accounts for it by those of the trusted pair or by the list
+  -- by the changes of all entry lines, each with what accounts for it: its entries, the trusted pair or the list
   pub cut : BeginsLines (leaves_between list texts.old texts.new) asked trusted
       (changes_between texts.old texts.new)
       (changes_between texts.trusted_old texts.trusted_new) before after

@@ -32,8 +32,8 @@ impl<'a> Model for StoredFile<'a> {
 }
 
 /// Files in memory, lent to the site. If several files have one path, the file added last counts.
-/// The site shows what is at every path. Only the opening of a file that is not there fails. `add` and
-/// `point` may run out of memory.
+/// The site shows what is at every path. Only the opening of a file that is not there, or of a side that points at
+/// nothing, fails. `add` and `point` may run out of memory.
 #[derive(Drop)]
 pub struct MemorySite<'a> {
     files: Vec<StoredFile<'a>>,

@@ -5,7 +5,7 @@
 pub(crate) enum Status {
     /// The arguments are not those of the command.
     Usage = 15,
-    /// The configuration has a fault, or is too long.
+    /// The configuration or the list has a fault, or the configuration is too long.
     Configuration = 17,
     /// The configuration was not read, or what it sets was not written.
     Device = 18,

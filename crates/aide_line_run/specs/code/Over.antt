@@ -51,7 +51,7 @@ pub record AreDone {R X E : Type 0} (r : Reels R) (list : ListRead) (options : O
     (m : Merges R) (d u : DeskView) (done : List Accounted) (result : Result X E) : Type 0 where
   -- it is of the changes of the compared pair
   pub changes : OverMerge r m.compared d (λ all. IsDone result (changes_of done) all)
-  -- if they are in path order, the entries of the trusted pair at their paths account for them, or the list
+  -- if they are in path order, their entries, those of the trusted pair at their paths, or the list account for them
   pub lines : OverMerges r list m.compared d m.trusted u (λ leaves all trusted_changes.
       IsDone result
       (accounted_lines options done) (change_lines options (sought_by leaves trusted_changes) all))
