@@ -48,17 +48,24 @@ COUNTS = {
 }
 
 
+def recorded() -> Host:
+    """A host on which nothing differs but what packages' records have."""
+    host = Host()
+    host.old.file(b"/usr/lib/tool", ONE)
+    host.new.file(b"/usr/lib/tool", TWO)
+    host.packages.append(Package("tool", "2", {b"/usr/lib/tool": TWO}))
+    return host
+
+
 def sample() -> Host:
     """A host on which each kind of change is there once, but for trusted ones."""
-    host = Host()
-    for path in (b"/srv/gone", b"/srv/log", b"/srv/plain", b"/srv/same", b"/usr/lib/tool"):
+    host = recorded()
+    for path in (b"/srv/gone", b"/srv/log", b"/srv/plain", b"/srv/same"):
         host.old.file(path, ONE)
     host.new.file(b"/srv/log", TWO)
     host.new.file(b"/srv/plain", ONE, mode=0o100600)
     host.new.file(b"/srv/same", ONE, mtime=time_of(2000), ctime=time_of(2000), inode=7)
     host.new.file(b"/usr/.x y", TWO, mode=0o104755)
-    host.new.file(b"/usr/lib/tool", TWO)
-    host.packages.append(Package("tool", "2", {b"/usr/lib/tool": TWO}))
     return host
 
 
@@ -67,15 +74,6 @@ def silent() -> Host:
     host = Host()
     host.old.file(b"/srv/same", ONE)
     host.new.file(b"/srv/same", ONE, mtime=time_of(2000))
-    return host
-
-
-def recorded() -> Host:
-    """A host on which nothing differs but what packages' records have."""
-    host = Host()
-    host.old.file(b"/usr/lib/tool", ONE)
-    host.new.file(b"/usr/lib/tool", TWO)
-    host.packages.append(Package("tool", "2", {b"/usr/lib/tool": TWO}))
     return host
 
 

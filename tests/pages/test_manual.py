@@ -23,6 +23,7 @@ from tests.oracle.database import BYTE_LIMIT, COLUMN_LIMIT, LINE_LIMIT
 from tests.oracle.session import CONFIGURATION_LIMIT, CONFIGURATION_WORDS, DATABASE_WORDS
 from tests.oracle.session import LIST_WORDS
 from tests.pages.blocks import MANUALS
+from tests.pages.cases_beside_aide import database
 
 PAGE, CONF_PAGE = read("man/aide-compare-program.8"), read("man/aide-compare.conf.5")
 # The kind of value that each option has.
@@ -58,11 +59,6 @@ LIMITS = {
     "variable or database path, bytes": configuration.VALUE_LIMIT,
     "name of a variable or group, bytes": NAME_LIMIT,
 }
-
-
-def database(columns: str, *entries: str) -> str:
-    lines = "".join(entry + "\n" for entry in entries)
-    return f"@@begin_db\n@@db_spec {columns}\n{lines}@@end_db\n"
 
 
 PAIR = (
