@@ -393,23 +393,29 @@ class ArchiveTest(ArchiveCase):
         self.answered(18, None, b"Permission denied", ARCHIVE, *words)
 
     def test_keyrings(self) -> None:
-        """A keyring is as both databases have it, or in neither."""
+        """A keyring, and what its name leads to, is as both databases have it, or in neither."""
         place = self.place
         place.sign()
-        path = os.fsencode(self.path("keys.gpg"))
         keys = self.read("keys.gpg")
-        for texts, status in (
-            ((keys, keys), 0),
-            ((b"other", keys), 18),
-            ((keys, b"other"), 18),
-            ((b"", keys), 18),
-            ((keys, b""), 18),
+        file, path = (os.fsencode(self.path(name)) for name in ("keys.pgp", "keys.gpg"))
+        os.rename(path, file)
+        os.symlink(file, path)
+        for night in (place.old, place.new):
+            night.link(path, file)
+        for texts, statuses in (
+            ((keys, keys), [0, 0]),
+            ((b"other", keys), [18, 18]),
+            ((keys, b"other"), [18, 18]),
+            ((b"", keys), [18, 18]),
+            ((keys, b""), [18, 18]),
+            ((b"", b""), [0, 18]),
         ):
             for night, text in zip((place.old, place.new), texts):
-                night.entries.pop(path, None)
+                night.entries.pop(file, None)
                 if text:
-                    night.file(path, text)
-            self.assertEqual(place.ask().status, status, texts)
+                    night.file(file, text)
+            found = [place.ask(keyring=name).status for name in ("keys.pgp", "keys.gpg")]
+            self.assertEqual(found, statuses, texts)
         for night in (place.old, place.new):
             night.entries.pop(path, None)
         os.chmod(self.path("keys.gpg"), 0o666)

@@ -9,7 +9,7 @@ import io
 import os
 import tarfile
 from collections import Counter
-from collections.abc import Collection, Iterator, Sequence
+from collections.abc import Callable, Iterator, Sequence
 from heapq import merge
 from itertools import groupby
 from typing import IO
@@ -18,9 +18,9 @@ from aide_compare.base.database import ABSENT, SET_ID
 from aide_compare.base.ending import Fault, Status
 from aide_compare.base.escapes import shown
 from aide_compare.base.files import BLOCK, digests_of, nameless
-from aide_compare.base.paths import escaped, key_of_path, path_of, unescaped
+from aide_compare.base.paths import escaped, key_of_path, path_of
 from aide_compare.changes.signed import MAX_UNPACKED, Signed, file_name, open_package, tar_of
-from aide_compare.changes.usr import MERGED, usr_of
+from aide_compare.changes.usr import usr_of
 from aide_compare.changes.weighing import directory_of
 from aide_compare.compare.kept_open import NEW_SIDE, OLD_SIDE, EntryReader, SidedEntry, key_of_entry
 from aide_compare.compare.unpack import Copy
@@ -77,28 +77,13 @@ def link_count(entry: FieldsByColumn) -> int:
     return int(field) if field.isdigit() else 0
 
 
-def links_of(copy: Copy, paths: Collection[bytes]) -> dict[bytes, bytes]:
-    """Where those of these paths point to that are links in a database."""
-    reader = EntryReader(copy)
-    keys = {key_of_path(path): path for path in paths}
-    last = max(keys)
-    found = {}
-    for key, _, line in reader.entries(OLD_SIDE):
-        if key > last:
-            break
-        if key in keys:
-            fields = reader.fields(line)
-            if type_digits(fields) == TYPES[tarfile.SYMTYPE]:
-                found[keys[key]] = unescaped(fields.get("lname", ABSENT))
-    return found
-
-
 class Upgrades:
     """The files of signed packages on a machine, by the keys of their paths. Of `replaced` the old
-    entries get another content, and those of `gone` are no longer there."""
+    entries get another content, and those of `gone` are no longer there. `link` gives where a path
+    points to in the old database."""
 
-    def __init__(self, old: Copy, directories: Sequence[str]) -> None:
-        self.moved = usr_of(links_of(old, MERGED).get)
+    def __init__(self, link: Callable[[bytes], bytes | None], directories: Sequence[str]) -> None:
+        self.moved = usr_of(link)
         self.directories = directories
         self.files: dict[bytes, FieldsByColumn] = {}
         self.replaced: set[bytes] = set()

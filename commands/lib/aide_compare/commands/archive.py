@@ -3,14 +3,15 @@ from __future__ import annotations
 
 import io
 import os
-from collections.abc import Collection, Container, Iterable, Sequence
+from collections.abc import Container, Iterable, Sequence
 
+from aide_compare.base.database import ABSENT
 from aide_compare.base.ending import Fault, Status, say
 from aide_compare.base.escapes import shown
 from aide_compare.base.files import PRIVATE, copy_file, in_memory, trusted_text
 from aide_compare.base.options import MAX_SIZE, QUIET, USER, Asked, Operand, field, option
 from aide_compare.base.parser import Help, read
-from aide_compare.base.paths import key_of_path, path_of
+from aide_compare.base.paths import key_of_path, path_of, unescaped
 from aide_compare.base.processes import limit_memory, limit_time
 from aide_compare.base.replacement import replace_by_copy
 from aide_compare.base.rights import become_owner, give_up
@@ -18,6 +19,7 @@ from aide_compare.base.words import counted
 from aide_compare.changes.applied import INFO, KEPT, FieldsByColumn, Upgrades
 from aide_compare.changes.applied import content_of, fits, upgraded
 from aide_compare.changes.signed import Catalog, releases_of
+from aide_compare.changes.usr import MERGED
 from aide_compare.commands.defaults import machines_databases
 from aide_compare.compare.kept_open import OLD_SIDE, EntryReader
 from aide_compare.compare.soundness import refuse_unsound
@@ -75,11 +77,11 @@ Entries = dict[str, FieldsByColumn]
 
 
 class Night:
-    """What a database has of keyrings; of the lists and digests of packages, by dpkg's own names of
-    these; of the files of packages that apt keeps; and the names of apt's indexes."""
+    """What a database has at some paths; of the lists and digests of packages, by dpkg's own names
+    of these; of the files of packages that apt keeps; and the names of apt's indexes."""
 
-    def __init__(self, copy: Copy, keyrings: Collection[str]) -> None:
-        self.keyrings: Entries = {}
+    def __init__(self, copy: Copy, paths: Container[str]) -> None:
+        self.named: Entries = {}
         self.lists: Entries = {}
         self.sums: Entries = {}
         self.files: Entries = {}
@@ -89,8 +91,8 @@ class Night:
             path = os.fsdecode(path_of(key))
             directory, name = os.path.split(path)
             own, ending = os.path.splitext(name)
-            if path in keyrings:
-                self.keyrings[path] = reader.fields(line)
+            if path in paths:
+                self.named[path] = reader.fields(line)
             elif directory + "/" == INFO and ending == ".list":
                 self.lists[own] = reader.fields(line)
             elif directory + "/" == INFO and ending == ".md5sums":
@@ -101,16 +103,21 @@ class Night:
                 self.indexes.add(name)
         self.whole = self.lists.keys() & self.sums.keys()
 
+    def link(self, path: bytes) -> bytes:
+        """Where one of the paths points to; what AIDE writes for none if it is no link."""
+        return unescaped(self.named.get(path.decode(), {}).get("lname", ABSENT))
 
-def keys_of(path: str, nights: Sequence[Night]) -> bytes:
-    """The keys of a keyring: it is as both databases have it, or in neither of them."""
-    text = trusted_text(path, "the keyring")
+
+def keys_of(path: str, file: str, nights: Sequence[Night]) -> bytes:
+    """The keys of a keyring. If a database has its path, or that of the file to which this leads,
+    both have the file as it is."""
+    text = trusted_text(file, "the keyring")
     if text.startswith(ARMOR):
         why = f"the keyring {shown(path)} is a text, which gpgv does not read"
         raise Fault(Status.DEVICE, why, "gpg --dearmor makes a keyring of it")
     content = content_of(io.BytesIO(text))
-    found = [night.keyrings.get(path) for night in nights]
-    if any(found) and not all(entry and fits(entry, content) for entry in found):
+    found = [(night.named.get(path), night.named.get(file)) for night in nights]
+    if any(map(any, found)) and not all(entry and fits(entry, content) for _, entry in found):
         raise Fault(Status.DEVICE, f"the keyring {shown(path)} is not as both databases have it")
     return text
 
@@ -161,10 +168,11 @@ def take_packages(
 
 def upgrades_of(old_copy: Copy, new_copy: Copy, request: ArchiveRequest) -> Upgrades:
     """What signed packages have brought between two databases."""
-    keyrings = [os.path.realpath(path) for path in request.keyrings]
-    old = Night(old_copy, keyrings)
-    new = Night(new_copy, keyrings)
-    keys = in_memory(b"".join(keys_of(path, (old, new)) for path in keyrings))
+    keyrings = {path: os.path.realpath(path) for path in request.keyrings}
+    paths = {*keyrings, *keyrings.values(), *map(os.fsdecode, MERGED)}
+    old = Night(old_copy, paths)
+    new = Night(new_copy, paths)
+    keys = in_memory(b"".join(keys_of(*each, (old, new)) for each in keyrings.items()))
     releases = releases_of(request.directories, old.indexes)
     if not releases:
         raise Fault(Status.DEVICE, "--from names no signed index", ADVICE)
@@ -178,7 +186,7 @@ def upgrades_of(old_copy: Copy, new_copy: Copy, request: ArchiveRequest) -> Upgr
     catalog = Catalog(old.lists, owns, changed(old.files, new.files))
     if catalog.owns or catalog.files:
         catalog.read(releases, keys)
-    upgrades = Upgrades(old_copy, request.directories)
+    upgrades = Upgrades(old.link, request.directories)
     take_packages(upgrades, catalog, sums, came)
     take_files(upgrades, catalog, gone)
     removed = (old.lists.keys() - new.lists.keys()) | (old.sums.keys() - new.sums.keys())
@@ -196,7 +204,7 @@ def request_of(arguments: Sequence[str]) -> ArchiveRequest:
     output = request.output
     if output and os.path.realpath(output) in [os.path.realpath(path) for path in databases]:
         raise Fault(Status.USAGE, "--output is one of the databases, which would be replaced")
-    keyrings = request.keyrings or [DEBIANS_KEYRING]
+    keyrings = [os.path.abspath(path) for path in request.keyrings or [DEBIANS_KEYRING]]
     return request.but(databases=databases, keyrings=keyrings)
 
 
