@@ -24,8 +24,7 @@ Contents = tuple[Optional[bytes], Optional[bytes], Optional[bytes], int]
 
 
 def fresh(sandbox: CommandTest, owner: int | None = None) -> None:
-    """The databases before something is accepted. With an owner the folder is his, and the baseline
-    stays root's."""
+    """The databases before anything is accepted. The folder is an owner's, the baseline root's."""
     shutil.rmtree(sandbox.path("base"), ignore_errors=True)
     sandbox.write("base/aide.db", gzip.compress(OLD), 0o600)
     sandbox.write("base/aide.db.previous", OLDER)

@@ -71,8 +71,7 @@ AS_NOBODY = "os.setgroups([]); os.setgid(%d); os.setuid(%d)" % (NOBODY, NOBODY)
 
 
 def after(before: str | None, command: list[str]) -> list[str]:
-    """A command that does something else before it starts. (`preexec_fn` is not safe in a process
-    with threads.)"""
+    """A command that does something first. (`preexec_fn` is not safe in a process with threads.)"""
     return [sys.executable, "-IS", "-c", BECOME % before] + command if before else command
 
 

@@ -69,8 +69,7 @@ def made_by_root(sandbox: CommandTest) -> Iterator[str]:
 
 
 def harm(sandbox: CommandTest, before: dict[str, Any]) -> list[object]:
-    """What an attack has changed of root's, and what root's rights have made in the other user's
-    folder."""
+    """What an attack has changed of root's, and what root's rights made in the other's folder."""
     now = roots(sandbox)
     changed = [(path, before.get(path), now.get(path)) for path in before.keys() | now.keys()]
     return [entry for entry in changed if entry[1] != entry[2]] + list(made_by_root(sandbox))

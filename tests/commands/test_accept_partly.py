@@ -104,8 +104,7 @@ class AcceptPartlyTest(AcceptingTest):
         self.refuses(18, b"so nothing stays open", sha256(NEW), "--keep-open", "/a")
 
     def test_many(self) -> None:
-        """Random databases against maps: the new one, with what the old one says of each path that
-        stays open."""
+        """Random databases against maps: the new one, with the old entries that stay open."""
         draw = random.Random(1)
         for number in range(12):
             paths = [random_path(draw) for _ in range(90)]

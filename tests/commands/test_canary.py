@@ -86,8 +86,7 @@ class CanaryTest(CommandTest):
         self.assertTrue(text.startswith("aide on 4 hosts: 4 differ"), "no note without a canary")
 
     def check_failed(self, hosts: Hosts, cause: str, *words: str) -> None:
-        """The canary was not used: the others were compared, nothing is silent, and the report says
-        so first."""
+        """Without the canary the others were compared, none is silent, and the report says so."""
         note = f"canary www1 was not used, so the others were compared without it: {cause}"
         lines = self.compared(hosts, *words, "--canary", "www1")
         self.assertTrue(lines[1].startswith(note), lines)

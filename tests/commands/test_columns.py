@@ -67,8 +67,7 @@ class ColumnsTest(CommandTest):
         self.assertEqual(whole["skipped_old"], ['a"b', "c\\134d"])
 
     def test_names(self) -> None:
-        """Names of others are escaped and cut, and of a spec line that is too far away there are
-        numbers only."""
+        """Names of others are escaped and cut; a spec line too far away gives numbers only."""
         for name, told in (
             (b"\x1b[31m\xe2\x80\xae", b"the column \\033[31m\\342\\200\\256 is"),
             (b"n" * 90, b"the column " + b"n" * 40 + b"... is"),

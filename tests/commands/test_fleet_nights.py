@@ -189,8 +189,7 @@ class ListedOnceTest(CommandTest):
         return {host: " ".join(sorted(paths)) for host, paths in found.items()}
 
     def test_always_there(self) -> None:
-        """What the canary has had for ever, or never had, is no change there: it is listed where it
-        came or went."""
+        """What the canary always or never had is no change there, but where it came or went."""
         weak = program("/bin/su", b"weak")
         backdoor = program("/bin/nmap", b"nmap")
         www = measured(weak, backdoor)

@@ -76,8 +76,7 @@ class FrontTest(CommandTest):
             self.assertNotIn(b"\033", answer.errors, words)
 
     def test_program(self) -> None:
-        """AIDE's own options go to the program as they are, with its statuses and nothing of Python
-        about it."""
+        """AIDE's own options go to the program as they are, with its statuses, and no Python."""
         lines = "database_in=file:%s\ndatabase_new=file:%s"
         lines %= (self.path("old.db"), self.path("new.db"))
         report = b"AIDE found differences"
@@ -131,8 +130,7 @@ class FrontTest(CommandTest):
         self.answered(0, b"", b"", *runs)
 
     def test_version(self) -> None:
-        """The programs that are run, and what the record of each says of it, if that is of this
-        program."""
+        """The programs that are run, and what the record of each says, if it is of this program."""
         self.check_record(self.program, lambda text: text.partition(LINES_PROGRAM)[0])
         rest = b"program: "
         self.check_record(self.lines_program, lambda text: rest + text.partition(LINES_PROGRAM)[2])
@@ -142,8 +140,7 @@ class FrontTest(CommandTest):
         self.answered(18, None, told, TOOL, "version")
 
     def check_record(self, program: str, part: Callable[[bytes], bytes]) -> None:
-        """What the version says of a program by each record beside it; `part` takes this from the
-        output."""
+        """What the version says of a program by each record; `part` takes this from the output."""
         digest = sha256(self.read(program))
         first = b"program: %s\nSHA-256: %s\n" % (program.encode(), digest.encode())
         other = sha256(b"x")

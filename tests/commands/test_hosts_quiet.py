@@ -30,8 +30,7 @@ class HostsQuietTest(CommandTest):
         return fleet
 
     def test_idle(self) -> None:
-        """A night on which only logs grew: without a file of paths all hosts differ, with one no
-        line is printed."""
+        """Only logs grew: without a file of paths all hosts differ, with one no line is printed."""
         fleet = self.prepare(idle(5), idle(9))
         said = fleet.compare(self.hosts)
         self.assertEqual(said.status, 4, said)

@@ -205,8 +205,7 @@ class HostsReportTest(CommandTest):
         self.assertEqual(found["stale"]["status"], 7, "any age")
 
     def test_broken(self) -> None:
-        """What cannot be read of one host, such as on a damaged disk, keeps no other host from the
-        report."""
+        """What cannot be read of a host, as on a damaged disk, keeps out no other one."""
         hosts = Hosts(self)
         hosts.compared({f"good{number}": (OLD, NEW) for number in range(1, 7)})
         for name in ("good1", "good2"):

@@ -73,8 +73,7 @@ class TextsTest(MailTest):
         self.assertIn(said, body(sent(self)))
 
     def test_changed_list(self) -> None:
-        """A list that was changed since the baseline is mailed even if nothing differs; the same
-        list is not."""
+        """A list that was changed is mailed even if nothing differs; the same list is not."""
         path = os.fsencode(self.write("list", b"/etc/**\n"))
         for text, is_said in ((b"/etc/**\n", False), (b"/var/log/**\n", True)):
             digest = base64.b64encode(hashlib.sha256(text).digest())

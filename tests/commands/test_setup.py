@@ -199,8 +199,7 @@ class SetupTest(CommandTest):
         self.expect("cron's job and the timer", self.call(TOOL), 18, None, said)
 
     def test_other_system(self) -> None:
-        """A system of rpm: AIDE is root's, has another configuration, and no command that makes the
-        baseline."""
+        """A system of rpm: AIDE is root's, and its configuration and first command are others."""
         databases = self.path(DATABASES)
         shutil.rmtree(self.path("root/etc"))
         shutil.rmtree(self.path("root/var"))

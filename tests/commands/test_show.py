@@ -81,8 +81,7 @@ class ShowTest(CommandTest):
         self.assertEqual(sorted(line.split()[0] for line in lines[1:]), sorted(names))
 
     def test_names(self) -> None:
-        """A path is given as it is on the disk or as it was printed, and none of its bytes is a
-        wildcard."""
+        """A path is given as on the disk or as it was printed, and no byte of it is a wildcard."""
         self.write("none.db", HEAD + END)
         names = (b"/%2a", b"/a%1b", b"/ab")
         self.write("h.db", HEAD + b"".join(name + b" 36 100644 1\n" for name in names) + END)

@@ -145,8 +145,7 @@ class SilencedTest(mail.MailTest):
             self.assertEqual("New packages: zz-tool" in lines, not before, lines)
 
     def test_weak_digests(self) -> None:
-        """A file with nothing but a weak digest, equal, was "the same content" once its package
-        changed."""
+        """A file of a weak digest only, equal, was "the same content" when its package changed."""
         host = Host()
         columns = tuple(column for column in host.old.columns if column != "sha256")
         host.old.columns = host.new.columns = columns

@@ -201,8 +201,7 @@ class WithoutTest(CommandTest):
         self.assertEqual(answer.status, 0)
 
     def test_rights(self) -> None:
-        """What gives rights is always told, and so is what has no mode or comes from a database
-        without modes."""
+        """What gives rights is always told, and what has no mode, or is of a database without."""
         lines = [
             b"/a/%02d 44 %s %d 1 %s\n" % (number, *row[1:4]) for number, row in enumerate(RIGHTS)
         ]

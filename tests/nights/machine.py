@@ -101,8 +101,7 @@ class Machine:
         self.chroot("chpasswd", text="anna:secret\n")
 
     def _add_sink(self) -> None:
-        """msmtp keeps no queue, so it needs a server. One that throws all mails away runs on the
-        machine."""
+        """msmtp keeps no queue, so it needs a server: one that throws all mails away."""
         self.write(
             "etc/msmtprc", "account default\nhost 127.0.0.1\nport 2525\nfrom root@localhost\n"
         )

@@ -91,8 +91,7 @@ def title_of(change: Change) -> str:
 
 
 def sign_of(slot: str, old: Entry, new: Entry, settings: Settings) -> str:
-    """The letter of a slot for a changed entry: the first case that holds for an attribute of the
-    slot."""
+    """The letter of a slot of a changed entry: the first case for an attribute there."""
     here = {attribute.name for attribute in ATTRIBUTES if attribute.slot == slot}
     changed, added, removed = (
         names & here for names in (changed_in(old, new), added_in(old, new), added_in(new, old))

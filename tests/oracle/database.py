@@ -45,8 +45,7 @@ def order_of(path: bytes) -> list[bytes]:
 
 
 def parts_of(lines: list[bytes]) -> Parts:
-    """The first line, the second one, the lines up to the end line, and the end line, as far as
-    they are there."""
+    """The first line, the second one, those up to the end line, and that, if they are there."""
     read = [(number, fields_of(line)) for number, line in enumerate(lines, 1)]
     read = [
         (number, fields) for number, fields in read if fields and not fields[0].startswith(b"#")

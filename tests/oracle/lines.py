@@ -160,8 +160,7 @@ NO_SOURCE = Source(b"", NO_ENTRIES, database_of(NO_ENTRIES))
 
 
 def read_of(source: Source) -> bytes:
-    """What is known of a database at its end: its digest and the places of the columns that are not
-    compared."""
+    """What is known of a database at its end: its digest and the places of skipped columns."""
     digest = hashlib.sha256(source.text).hexdigest()
     places = array([number(place) for place in source.database.skipped])
     return object_of([("sha256", string(digest)), ("skipped", places)])
@@ -182,8 +181,7 @@ def change_lines(changes: list[Change], accounts: list[Account], settings: Setti
 
 
 def numbers_of(new: Database, counts: Counts, accounts: list[Account]) -> list[Member]:
-    """The members of the last line with the numbers of entries, and of the changes that each
-    account explains."""
+    """Members of the last line with the numbers of entries, and of changes by their accounts."""
     numbers = [("total", len(new.entries))]
     numbers += [(kind, counts[kind]) for kind in KINDS]
     numbers.append(("same_as_old", accounts.count("old")))

@@ -21,8 +21,7 @@ PIPE = 1 << 16
 
 
 def read_slowly(program: bytes, words: list[bytes], at_first: Callable[[], None]) -> Answer:
-    """The answer of a program whose output is read slowly, and whose files change when its first
-    bytes have come."""
+    """The answer of a program, read slowly, whose files change when its first bytes have come."""
     process = subprocess.Popen(
         [program, *words],
         stdin=subprocess.DEVNULL,

@@ -66,8 +66,7 @@ class MailRequestTest(ModuleTest):
             self.assertIn(why, request.fault.text if request.fault else "")
 
     def test_machine(self) -> None:
-        """The databases and the state of this machine are those of the defaults, and a list has
-        what both say."""
+        """Databases and state of this machine are the defaults' ones; a list has what both say."""
         lines = b"--databases o  n\n--state s\n--weekly Tue\n--exclude /a\n"
         self.write("defaults", lines)
         missing = ["there is no baseline o: as root, aide-compare setup makes it"]

@@ -97,8 +97,7 @@ class TextsTest(ModuleTest):
             self.gives(age, words.age_in_words, seconds)
 
     def test_words(self) -> None:
-        """When an entry came or changed: the time of its inode, then its own, if it is another one
-        than before."""
+        """When an entry came or changed: the time of its inode, then its own, if it differs."""
         rights: Values = {"Perm": "0644", "UID": 0, "GID": 0}
         kept: Values = {**rights, "Size": 6, "Mtime": 1795600000, "Ctime": 1795600000}
         old: Values = {**kept, "Size": 5}

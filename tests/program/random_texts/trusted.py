@@ -50,8 +50,7 @@ def usual_entries(pick: random.Random, columns: Columns) -> Rows:
 
 
 def in_own_state(pick: random.Random, columns: Columns, entries: Rows) -> Rows:
-    """The same entries as another machine has them: with its own times, inodes and sizes of
-    directories."""
+    """The same entries on another machine: with its own times, inodes and sizes of directories."""
     restated = {}
     for path, row in entries.items():
         row = dict(row)
