@@ -56,16 +56,20 @@ class PackagesTest(ModuleTest):
             os.rename(path + ".own", path)
 
     def test_bound(self) -> None:
-        """All records together have so many bytes, and so many lists are read, in any blocks."""
+        """All records together have so many bytes, dpkg's status and what it has of each package
+        that is asked too, and so many lists are read, in any blocks."""
         size = os.path.getsize(self.write("dpkg/info/tool.list", TOOL.paths() + b"/more\n" * 100))
-        size += len(TOOL.sums() + GONE.paths())
+        size += len(TOOL.sums() + GONE.paths() + TOOL.status().strip())
+        status = os.path.getsize(self.path("dpkg/status"))
         found = {"tool 2": {b"/usr/bin/tool\n": "c81e728d9d4c2f636f067f89cc14862c"}}
-        for name, most in (("MAX_LISTS", 2), ("MAX_BYTES", size), ("BLOCK", 48)):
+        bounds = {"MAX_BYTES": size, "MAX_STATUS": status}
+        for name, most in {**bounds, "MAX_LISTS": 2, "BLOCK": 48}.items():
             with mock.patch.object(packages, name, most):
                 self.expect(f"found, {name} {most}", self.members(), found)
         with mock.patch.object(packages, "MAX_LISTS", 1):
             self.gives({}, self.members)
-        with mock.patch.object(packages, "MAX_BYTES", size - 1):
-            self.assertRaisesRegex(Fault, "have more than", self.members)
+        for name, most in bounds.items():
+            with mock.patch.object(packages, name, most - 1):
+                self.assertRaisesRegex(Fault, "have more than", self.members)
         os.unlink(self.path("dpkg/info/tool.md5sums"))
         self.gives({"tool 2": {b"/usr/bin/tool\n": ""}}, self.members)
