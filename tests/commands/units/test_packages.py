@@ -13,6 +13,7 @@ from aide_compare.base.ending import Fault
 from aide_compare.changes import packages
 from aide_compare.changes.applied import members_of
 from aide_compare.changes.packages import Dpkg, Members
+from aide_compare.show import brief, digest
 
 TOOL = Package("tool", "2", {b"/usr/bin/tool": b"2"}, {b"/etc/tool": b"2", b"/etc/more": b"2"})
 GONE = Package("gone", "1", {b"/usr/bin/gone": b"1"}, state="deinstall ok config-files")
@@ -73,3 +74,9 @@ class PackagesTest(ModuleTest):
                 self.assertRaisesRegex(Fault, "have more than", self.members)
         os.unlink(self.path("dpkg/info/tool.md5sums"))
         self.gives({"tool 2": {b"/usr/bin/tool\n": ""}}, self.members)
+
+    def test_names(self) -> None:
+        """No more names of packages are tried than there could be room for."""
+        with mock.patch("textwrap.wrap", return_value=[]) as wrapping:
+            brief.names_lines("New packages", ["a"] * 100000, digest.MAIL)
+        self.assertLess(len(wrapping.call_args.args[0]), 5000)

@@ -15,6 +15,7 @@ from aide_compare.show.groups import group_lines
 
 WIDTH = 100  # Of lines with names, if lines have no limit.
 MAX_NAME = 40
+MIN_NAME = 3  # With the comma and the blank behind it.
 
 
 def silent_words(counts: Counts) -> str:
@@ -33,7 +34,7 @@ def names_lines(title: str, names: Sequence[str], room: Room) -> list[str]:
     from textwrap import wrap  # A millisecond that most runs do not need.
 
     words = [guarded(name)[:MAX_NAME] for name in names]
-    count = len(words)
+    count = min(len(words), room.names * WIDTH // MIN_NAME)
     while True:
         text = f"{title}: {', '.join(words[:count])}"
         if count < len(words):
