@@ -10,6 +10,7 @@ import base64
 import os
 import re
 from collections.abc import Iterator, Mapping, Sequence
+from os.path import abspath, realpath
 from typing import NamedTuple
 
 from aide_compare.base.database import ABSENT, PATH_COLUMN, fields_in
@@ -46,7 +47,7 @@ class Exclusions(NamedTuple):
     """The list."""
 
     lines: Sequence[Line]
-    files: Mapping[bytes, bytes]  # The text of each file that lines came from, by its path.
+    files: Mapping[bytes, bytes]  # The text of each file that lines came from, by its paths.
 
     @property
     def text(self) -> bytes:
@@ -66,15 +67,13 @@ class Exclusions(NamedTuple):
         AIDE writes the path first in the line of an entry."""
         if not self.files:
             return
-        starts = (COLUMNS, *(escaped(path) + b" " for path in self.files))
+        starts = tuple(escaped(path) + b" " for path in self.files)
         columns: list[bytes] = []
         with open(reopened(old.fd, os.O_RDONLY), "rb", BLOCK) as database:
             for line in database:
-                if not line.startswith(starts):
-                    continue
                 if line.startswith(COLUMNS):
                     columns = fields_in(line)[1:]
-                elif columns[:1] == [PATH_COLUMN]:
+                elif line.startswith(starts) and columns[:1] == [PATH_COLUMN]:
                     entry = dict(zip(columns, fields_in(line)))
                     path = unescaped(entry[PATH_COLUMN])
                     if not is_text_of(entry, self.files[path]):
@@ -111,7 +110,9 @@ def read_exclusions(files: Sequence[str], patterns: Sequence[str]) -> Exclusions
     lines: list[Line] = []
     for path in files:
         text = trusted_text(path, WHAT)
-        texts[os.fsencode(os.path.realpath(path))] = text  # A database has no digest of a link.
+        # A database has no digest of a link, and may have known a file where a link is now.
+        for name in (abspath(path), realpath(path)):
+            texts[os.fsencode(name)] = text
         lines += lines_of_file(text, path)
     for pattern in patterns:
         if "\n" in pattern:
