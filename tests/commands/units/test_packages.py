@@ -10,7 +10,7 @@ from tests.commands.units.calls import ModuleTest
 from tests.commands.made_up import Package
 
 from aide_compare.base.ending import Fault
-from aide_compare.changes import packages
+from aide_compare.changes import packages, signed
 from aide_compare.changes.applied import members_of
 from aide_compare.changes.packages import Dpkg, Members
 from aide_compare.show import brief, digest
@@ -27,6 +27,11 @@ class MembersTest(ModuleTest):
             member.type, member.size = kind, size
             file = io.BytesIO(member.tobuf(tarfile.GNU_FORMAT))
             self.fails(18, "dpkg does not know", list, members_of(file))
+
+    def test_versions(self) -> None:
+        """A dpkg that fails says of no version that it is the newest one."""
+        with mock.patch.object(signed, "run_tool", return_value=2):
+            self.fails(18, "dpkg cannot compare", signed.is_less, "1", "2")
 
 
 class PackagesTest(ModuleTest):

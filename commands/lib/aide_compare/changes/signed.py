@@ -28,6 +28,7 @@ MAX_RELEASE = 16 << 20
 MAX_UNPACKED = 4 << 30
 RELEASE = "InRelease"
 LISTS = "lists"  # What apt calls the directory of its indexes.
+SUITE_IN_LISTS = re.compile(rf"(?s).*_dists_([^_]*)(?:_.*)?_{RELEASE}").fullmatch
 FILE = "/proc/self/fd/4"
 KEYS = "--keyring=/proc/self/fd/5"
 GPGV = ("gpgv", "--status-fd=3", "--weak-digest=SHA1", "--output=-", KEYS, FILE)
@@ -77,8 +78,8 @@ def signed_text(release: Release, keys: int) -> str:
     if release.suite not in SUITES.findall(signed):
         raise Fault(Status.DEVICE, f"{name} is signed for another suite than {release.suite}")
     expires = EXPIRES.search(signed)
-    if expires and parsedate_to_datetime(expires.group(1)).timestamp() < time.time():
-        raise Fault(Status.DEVICE, f"{name} was valid until {shown(expires.group(1))}")
+    if expires and parsedate_to_datetime(expires[1]).timestamp() < time.time():
+        raise Fault(Status.DEVICE, f"{name} was valid until {shown(expires[1])}")
     return signed
 
 
@@ -108,13 +109,10 @@ def releases_of(directories: Iterable[str], known: Collection[str]) -> list[Rele
         if is_mirror:
             path = os.path.join(directory, RELEASE)
             releases.append(Release(path, suite.split("/")[0], None))
-        if is_mirror or os.path.basename(directory) != LISTS:
-            continue
-        for name in sorted(known):
-            start, is_suite, suite = name.removesuffix("_" + RELEASE).rpartition("_dists_")
-            if is_suite and name.endswith("_" + RELEASE):
-                path = os.path.join(directory, name)
-                releases.append(Release(path, suite.split("_")[0], known))
+        elif os.path.basename(directory) == LISTS:
+            for match in filter(None, map(SUITE_IN_LISTS, sorted(known))):
+                path = os.path.join(directory, match[0])
+                releases.append(Release(path, match[1], known))
     return releases
 
 
@@ -142,7 +140,10 @@ def packages_of(release: Release, keys: int) -> Iterator[Signed]:
 
 def is_less(version: str, other: str) -> bool:
     """Whether a version of a package is older than another one, as dpkg says."""
-    return run(["/usr/bin/dpkg", "--compare-versions", version, "lt", other], {}) == 0
+    status = run_tool(["dpkg", "--compare-versions", "--", version, "lt", other], {}, ())
+    if not 0 <= status <= 1:
+        raise Fault(Status.DEVICE, f"dpkg cannot compare two versions: {status}")
+    return not status
 
 
 def file_name(signed: Signed) -> str:

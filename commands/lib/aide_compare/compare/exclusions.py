@@ -56,10 +56,10 @@ class Exclusions(NamedTuple):
     def fault_in(self, errors: bytes) -> Fault | None:
         """The fault of a line that the program has refused, None if it says of none."""
         match = FAULT.match(errors)
-        if match is None or not 0 < int(match.group(1)) <= len(self.lines):
+        if match is None or not 0 < int(match[1]) <= len(self.lines):
             return None
-        line = self.lines[int(match.group(1)) - 1]
-        words = f"{line.place}: {shown(match.group(2))}: {shown(line.text.strip(), MAX_SHOWN)}"
+        line = self.lines[int(match[1]) - 1]
+        words = f"{line.place}: {shown(match[2])}: {shown(line.text.strip(), MAX_SHOWN)}"
         return Fault(Status.CONFIGURATION, words)
 
     def warnings(self, old: Copy) -> Iterator[str]:
