@@ -129,8 +129,11 @@ class FilesTest(PlacesTest):
             os.setpgid(0, 0)
             signal.pause()
         begun = time.monotonic()
+        denied = mock.Mock(side_effect=PermissionError)  # As for a set-ID program.
         with mock.patch.multiple(processes, STOP_SECONDS=0.2):
             with mock.patch.object(os, "waitpid", return_value=(0, 0)):
+                with mock.patch.multiple(os, killpg=denied, kill=denied):
+                    self.gives(None, processes.stop, child)
                 self.gives(None, processes.stop, child)
         self.assertLess(time.monotonic() - begun, 10)
         os.waitpid(child, 0)

@@ -246,8 +246,8 @@ def ended(child: int, deadline: float) -> int | None:
 
 def stop(child: int) -> int | None:
     """Kills a child with its group: its exit code. One in a call that does not return is left to
-    itself after some seconds."""
+    itself after some seconds, and so is a set-ID program that another user may not kill."""
     for kill in (os.killpg, os.kill):
-        with suppress(ProcessLookupError):
+        with suppress(OSError):
             kill(child, signal.SIGKILL)
     return ended(child, time.monotonic() + STOP_SECONDS)
