@@ -103,6 +103,11 @@ class QueueTest(MailTest):
         ends = [f"On{end}=aide-compare-{unit}.service" for end, unit in ENDS.items()]
         self.assertLessEqual(set(ends), set(daily))
         self.assertFalse([line for line in daily if line.startswith("SuccessExitStatus")])
+        limits, fleet = (
+            read(f"contrib/{name}.service").partition("\nCapability")[2]
+            for name in ("systemd/aide-compare-mail", "fleet/aide-compare-fleet")
+        )
+        self.assertEqual(fleet.replace("-/var/lib/aide-compare ", ""), limits, "over many hosts")
 
     def test_short(self) -> None:
         """sendmail that refuses only large mails gets a short one."""
