@@ -57,7 +57,7 @@ APT::Periodic::AutocleanInterval "7";
 class SetupRequest(Asked):
     """What the options ask for."""
 
-    is_quiet: bool = field(QUIET, help="print nothing but why a step failed")
+    is_quiet: bool = field(QUIET, help="list no step, and nothing that is missing")
     is_check: bool = option("--check", "print what is missing, and change nothing")
     address: str | None = field(TO, help="who gets the mails (root)")
     no_mail: bool = option("--no-mail", "send no test mail")
