@@ -1,5 +1,4 @@
-"""Attacks on aide-compare: none gives a wrong answer, a status of a comparison, or a command that
-does not end."""
+"""Attacks on aide-compare: none gives a wrong answer, a comparison's status, or an endless run."""
 from __future__ import annotations
 
 import gzip

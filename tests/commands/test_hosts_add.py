@@ -166,7 +166,7 @@ class HostsAddTest(CommandTest):
         for answer in ("no\n", "\n", "y\n", "yes please\n", "\x04"):
             asked = add(self, "www", answer)
             self.assertEqual((asked.status, files(self)), (24, {}), asked)
-            self.assertIn("nothing was added", asked.output_text)
+            self.assertIn("www: the answer was not yes", asked.output_text)
         asked = add(self, "www", "\x03")  # As ^C, which the terminal makes a signal of.
         self.assertEqual((asked.status, files(self)), (-signal.SIGINT, {LOCK: ""}), asked)
         asked = add(self, "www", "no\n", early=b"yes\n")
@@ -197,6 +197,10 @@ class HostsAddTest(CommandTest):
         self.assertEqual(listed, "www 18 was never compared\n")
         said = self.fleet.call("aide-compare hosts add", *words, "www")
         self.assertEqual((said.status, "a baseline already" in said.error_text), (24, True), said)
+        self.fleet.put("db1", OLD, None)
+        slow = "def refuse_unsound(_):\n    __import__('time').sleep(60)\n"
+        self.after_import("commands.hosts_add", slow)
+        self.refuses(18, "db1 took more than 4 seconds", "db1", "--time=4s")
 
     def test_faults(self) -> None:
         """What cannot be fetched or is no database is not asked about."""

@@ -1,5 +1,4 @@
-"""What AIDE's own user meets: tests that root runs once more with the rights of a user who is not
-root."""
+"""What AIDE's own user meets: tests that root runs once more with the rights of another user."""
 from __future__ import annotations
 
 import os

@@ -1,5 +1,4 @@
-"""A comparison beside a trusted pair: what is silent then, where that is told, and what is
-refused."""
+"""A comparison beside a trusted pair: what is silent, where that is told, what is refused."""
 from __future__ import annotations
 
 import gzip

@@ -1,5 +1,4 @@
-"""The recipes of docs/HOSTS.md: a new host, and many hosts of which some lie, fail or are
-silent."""
+"""The recipes of docs/HOSTS.md: a new host, and many, some of which lie, fail or are silent."""
 from __future__ import annotations
 
 import gzip

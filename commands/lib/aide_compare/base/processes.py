@@ -81,12 +81,12 @@ def limit_memory(limit: int) -> None:
     bound_memory(limit)
 
 
-def limit_time(seconds: int) -> None:
-    """Ends this process by a Fault if it runs for longer. The programs that it has started end with
-    it."""
+def limit_time(seconds: int, what: str = "it") -> None:
+    """Ends by a Fault what this process does if that takes longer, and the programs that it has
+    started; 0 is no limit."""
 
     def end(_number: int, _frame: object) -> None:
-        raise Fault(Status.DEVICE, f"it took more than {seconds} seconds")
+        raise Fault(Status.DEVICE, f"{what} took more than {seconds} seconds")
 
     signal.signal(signal.SIGALRM, end)
     signal.alarm(seconds)

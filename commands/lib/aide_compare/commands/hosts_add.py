@@ -10,14 +10,13 @@ from aide_compare.base.ending import Fault, OSErrorAsFault, Status, status_of, t
 from aide_compare.base.files import reopened
 from aide_compare.base.options import HOSTS_OPTION, SHA256, HostsAsked, Operand, field
 from aide_compare.base.parser import Help, read
-from aide_compare.base.processes import limit_memory
+from aide_compare.base.processes import limit_memory, limit_time
 from aide_compare.base.terminal import answer_to
 from aide_compare.compare.soundness import refuse_unsound
 from aide_compare.compare.unpack import Opened, copy_opened
 from aide_compare.hosts.fetching import DATABASE, ask_for_key, fetch
 from aide_compare.hosts.hosts_file import add_host
 from aide_compare.hosts.store import BASELINE, MAX_BASELINE, MAX_MEMORY, NEW_FILE, HostDirectory
-from aide_compare.hosts.store import write_cause
 
 HELP = Help(
     name="aide-compare hosts add",
@@ -55,14 +54,18 @@ def ask(host: str, sha256: str) -> None:
     with OSErrorAsFault(f"{host}: cannot ask on the terminal"):
         answer = answer_to(question)
     if answer != "yes":
-        raise Fault(Status.DATABASE, "the answer was not yes: nothing was added")
+        raise Fault(Status.DATABASE, f"{host}: the answer was not yes, so it was not added")
 
 
 def refuse_wrong(request: AddRequest, directory: HostDirectory, descriptor: int) -> None:
     """Refuses what a host has sent if it is not the right database."""
     opened = Opened("new", directory.file(NEW_FILE), reopened(descriptor, os.O_RDONLY))
-    copy = copy_opened(opened, MAX_BASELINE)
-    refuse_unsound(copy)
+    limit_time(request.seconds, directory.host)
+    try:
+        copy = copy_opened(opened, MAX_BASELINE)
+        refuse_unsound(copy)
+    finally:
+        limit_time(0)
     if not request.digest:
         ask(directory.host, copy.sha256)
     elif not copy.sha256.startswith(request.digest):
@@ -87,10 +90,8 @@ def add(request: AddRequest, host: str) -> int:
         if is_new:
             directory.remove_all()
         raise
-    try:
+    with OSErrorAsFault(f"{host}: cannot keep its baseline"):
         directory.copy(NEW_FILE, BASELINE)
-    except OSError as error:
-        raise directory.fault(f"cannot keep its baseline: {write_cause(error)}")
     directory.not_compared("was never compared")
     if not request.is_quiet:
         tell(f"{directory.host} is watched. Compare all hosts: aide-compare hosts compare")
