@@ -1,5 +1,4 @@
-"""aide-compare when something goes wrong: limits, damage, a full disk, no right, signals, and what
-others can read."""
+"""aide-compare when something fails: limits, damage, a full disk, no right, signals, readers."""
 from __future__ import annotations
 
 import contextlib

@@ -1,5 +1,4 @@
-"""Many hosts against one that was taken over: its report, its bytes, its silence; and runs that are
-ended half way."""
+"""Many hosts against one that was taken over: its report, bytes, silence; and runs cut short."""
 from __future__ import annotations
 
 import gzip
@@ -257,7 +256,7 @@ class FleetTest(CommandTest):
         self.assertEqual(mode, 0o600)
 
     def test_shared(self) -> None:
-        """A store in which another user can write is refused, also where its states are."""
+        """A store or its states in which others can write are refused; a file of hosts too."""
         self.needs_root()
         self.fleet.compare_one("good2")
         os.chmod(self.path("store/states"), 0o777)
@@ -268,3 +267,7 @@ class FleetTest(CommandTest):
         said = self.fleet.compare_one("good1")
         self.assertEqual(said.status, 18, said)
         self.assertIn("another user can write", said.output_text)
+        os.chmod(self.path("one-host"), 0o666)
+        said = self.fleet.compare(self.path("one-host"))
+        self.assertIn("other users can write the file of hosts", said.error_text)
+        self.assertEqual((said.status, said.output), (18, b""), said)

@@ -3,20 +3,19 @@ from __future__ import annotations
 
 from aide_compare.base.ending import Fault, Status
 from aide_compare.base.escapes import shown
-from aide_compare.base.files import is_missing, read_file, read_whole
+from aide_compare.base.files import MAX_TRUSTED_BYTES, is_missing, read_whole, trusted_text
 from aide_compare.base.replacement import replace
 
-MAX_HOSTS_FILE_BYTES = 16 << 20
-WHAT = "the file of hosts "
+WHAT = "the file of hosts"
 
 
 def hosts_of(path: str) -> list[str]:
     """The names in a file, each once."""
     data = b""
     if path == "-":
-        data = read_whole(0, MAX_HOSTS_FILE_BYTES, WHAT)
+        data = read_whole(0, MAX_TRUSTED_BYTES, WHAT)
     elif not is_missing(path):
-        data = read_file(path, MAX_HOSTS_FILE_BYTES, WHAT)
+        data = trusted_text(path, WHAT)
     lines = [line.strip() for line in data.decode("utf-8", "surrogateescape").split("\n")]
     names = list(dict.fromkeys(line for line in lines if line and not line.startswith("#")))
     if not names:
@@ -29,7 +28,7 @@ def lines_without(host: str, path: str) -> tuple[list[bytes], bool]:
     empty if the file has an end of its last line, or is missing."""
     lines = [b""]
     if not is_missing(path):
-        lines = read_file(path, MAX_HOSTS_FILE_BYTES, WHAT).split(b"\n")
+        lines = trusted_text(path, WHAT).split(b"\n")
     kept = [line for line in lines if line.strip() != host.encode()]
     return kept, kept != lines
 
@@ -41,12 +40,12 @@ def add_host(host: str, path: str) -> None:
         if lines[-1]:
             lines.append(b"")
         lines[-1:] = [host.encode(), b""]
-        replace(path, b"\n".join(lines), what=WHAT.strip())
+        replace(path, b"\n".join(lines), what=WHAT)
 
 
 def remove_host(host: str, path: str) -> bool:
     """Takes a host out of a file. Whether it was there."""
     lines, is_there = lines_without(host, path)
     if is_there:
-        replace(path, b"\n".join(lines), what=WHAT.strip())
+        replace(path, b"\n".join(lines), what=WHAT)
     return is_there
