@@ -283,6 +283,7 @@ class HostsReportTest(CommandTest):
         text = self.mailed(hosts, "--max-age", "2d")
         command = text.rpartition("with their values:\n")[2].replace("\\\n", " ")
         self.assertEqual(shlex.split(command)[5:-1], ["--max-age", "172800"])
+        self.assertNotIn("--max-age", self.mailed(hosts, "--max-age", "6h"), "it is read later")
         done = subprocess.run(["sh", "-c", command], capture_output=True, env=self.environment())
         listed = done.stdout.count(b" on 2 of 4 hosts: good1, good2\nadded File: /n")
         self.assertEqual(listed, 500, "the command prints all")

@@ -130,6 +130,7 @@ STATE = Option(
 # The most bytes of a database unpacked, unless an option says another number, and of a report.
 MAX_DATABASE_BYTES = 1 << 40
 MAX_REPORT_BYTES = 1 << 30
+MAX_RESULT_AGE = 26 * 3600
 MAX_SIZE = Option(
     "--max-size",
     "refuse a database of more bytes unpacked (1024G)",
@@ -150,7 +151,7 @@ RESULT_AGE = Option(
     "an older result counts as no comparison (26h; 0: no limit)",
     metavar="TIME",
     kind=duration,
-    default=26 * 3600,
+    default=MAX_RESULT_AGE,
 )
 EXCLUDE_FROM = Option(
     "--exclude-from",

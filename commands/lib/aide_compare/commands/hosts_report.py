@@ -14,6 +14,7 @@ from aide_compare.base.options import (
     HOSTS_FILE,
     HOSTS_OPERAND,
     MAIL_TIME,
+    MAX_RESULT_AGE,
     QUIET,
     RESULT_AGE,
     STORE,
@@ -82,11 +83,11 @@ class ReportRequest(HostsAsked):
 
 
 def command_words(request: ReportRequest) -> list[str]:
-    """The command that prints all that this one leaves out."""
+    """The command that prints all that this one leaves out, also for those who read later."""
     words = [find_installed(FRONT), "hosts", "report"]
     if request.store != STORE:
         words += ["--store", os.path.abspath(request.store)]
-    if request.max_age != RESULT_AGE.default:
+    if not 0 < request.max_age <= MAX_RESULT_AGE:
         words += ["--max-age", str(request.max_age)]
     path = request.hosts_file
     if path == "-":
