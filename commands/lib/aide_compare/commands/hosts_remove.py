@@ -19,7 +19,7 @@ HELP = Help(
 Takes HOST out of the file of hosts, and removes its baseline, its databases, its changes and its
 state. A new HOST of this name begins with aide-compare hosts add.""",
     epilog="""\
-Its key stays: ssh-keygen -R HOST removes it from ~/.ssh/known_hosts.
+Its key stays: ssh-keygen -R HOST, or its HostName in ~/.ssh/config, removes it from known_hosts.
 
 Status: 0 removed; 15 bad arguments; 18 there is no such host, or something could not be
 removed.""",
@@ -57,6 +57,6 @@ def main(arguments: Sequence[str]) -> int:
     if not request.is_quiet:
         tell(
             f"{host} is watched no longer. Its key stays:"
-            f" ssh-keygen -R {host} removes it from ~/.ssh/known_hosts"
+            f" ssh-keygen -R {host} removes it from ~/.ssh/known_hosts, or that of its HostName"
         )
     return Status.OK
