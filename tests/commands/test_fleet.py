@@ -155,7 +155,7 @@ class FleetTest(CommandTest):
             self.set_names("hosts.fetching", MAX_SENT=1 << 30 if is_small else 3 << 20)
             said = fleet.compare("--time", "60s", fleet.list_hosts("endless", *PAIR))
             self.check_pair(said)
-            fleet.not_compared("sent more than", said, "endless")
+            fleet.not_compared("(1 GiB, or a share of free room)", said, "endless")
             left = set(os.listdir(self.path("store/hosts/endless")))
             self.assertEqual(left - {"aide.db", "lock", "not-fetched"}, set(), "nothing of it")
 

@@ -45,7 +45,7 @@ def transfer(directory: HostDirectory, part: NewFile, limit: int) -> None:
 
     def take(block: bytes) -> None:
         if os.fstat(part.fd).st_size + len(block) > limit:
-            raise directory.fault(f"sent more than {limit} bytes")
+            raise directory.fault(f"sent more than {limit} bytes (1 GiB, or a share of free room)")
         try:
             write_all(part.fd, block)
         except OSError as error:
