@@ -1,5 +1,4 @@
-"""Packages that are built here, an archive of them that is signed here, and a machine that has been
-upgraded from it."""
+"""Packages that are built here, an archive of them, signed here, and a machine upgraded from it."""
 from __future__ import annotations
 
 import base64

@@ -1,5 +1,4 @@
-"""Attacks on aide-compare accept by the user who owns the folder of the baseline: what is root's
-stays as it is."""
+"""Attacks on aide-compare accept by the owner of the baseline's folder: what is root's stays."""
 from __future__ import annotations
 
 import gzip

@@ -1,5 +1,4 @@
-"""The page of aide-compare page in a headless Chromium: what a reader clicks and types, and what it
-then shows."""
+"""The page of aide-compare page in a headless Chromium: what a reader does, and what it shows."""
 from __future__ import annotations
 
 import json

@@ -13,7 +13,7 @@ from typing import Any
 from tests.lib.answer import Answer
 from tests.lib.waiting import is_alive, until
 
-from .sandbox import CommandTest, END, NEW, OLD, sha256
+from .sandbox import AS_NOBODY, CommandTest, END, NEW, OLD, sha256
 
 COMPARE = "aide-compare hosts compare"
 COUNTS = "added 1, removed 1, changed 2"
@@ -267,6 +267,10 @@ class FleetTest(CommandTest):
         said = self.fleet.compare_one("good1")
         self.assertEqual(said.status, 18, said)
         self.assertIn("another user can write", said.output_text)
+        os.chmod(self.path("store/hosts"), 0o700)
+        words = ("aide-compare hosts list", "--store=store", "one-host")
+        said = self.call(*words, before=AS_NOBODY)
+        self.assertRegex(said.output_text, "^good1 18 .*: Permission denied\n$", "not: never")
         os.chmod(self.path("one-host"), 0o666)
         said = self.fleet.compare(self.path("one-host"))
         self.assertIn("other users can write the file of hosts", said.error_text)

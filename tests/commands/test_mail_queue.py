@@ -1,5 +1,4 @@
-"""aide-compare mail that cannot go out at once, or at all: what waits in a queue, and who else is
-told."""
+"""A mail of aide-compare that cannot go out: what waits in a queue, and who else is told."""
 from __future__ import annotations
 
 import os

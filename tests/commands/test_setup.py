@@ -1,5 +1,4 @@
-"""aide-compare setup: each step once, nothing by --check, and no database that another user has put
-there."""
+"""aide-compare setup: each step once, nothing by --check, and no database of another user."""
 from __future__ import annotations
 
 import os

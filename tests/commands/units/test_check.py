@@ -1,5 +1,4 @@
-"""Which level the check for Nagios has, by the counts of a state and the limits that are asked
-for."""
+"""Which level the check for Nagios has, by the counts of a state and the limits asked for."""
 from __future__ import annotations
 
 from typing import Any
@@ -65,6 +64,6 @@ class CheckTest(ModuleTest):
         """Whatever fails is UNKNOWN, in a line of bounded length."""
         with mock.patch.object(status_command, "tell") as told:
             self.gives(UNKNOWN, status_command.check, ["--state", "x" * 500])
-            line = f"AIDE UNKNOWN: there is no {'x' * 500}"
+            line = f"AIDE UNKNOWN: cannot open the state file {'x' * 500}"
             self.assertEqual(told.call_args[0][0], line[: len("AIDE UNKNOWN: ") + 300])
         self.assertEqual(status_command.request_of(["--no-defaults"]).state, DAILY)

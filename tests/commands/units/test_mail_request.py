@@ -1,5 +1,4 @@
-"""What the options of a mail ask for: its own and the comparison's, with the defaults before
-them."""
+"""What the options of a mail ask for: its own, the comparison's, and the defaults before them."""
 from __future__ import annotations
 
 from typing import Any

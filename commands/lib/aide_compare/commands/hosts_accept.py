@@ -1,10 +1,10 @@
 """aide-compare hosts accept: what was fetched from a host becomes its baseline."""
 from __future__ import annotations
 
-import os
 from collections.abc import Sequence
 
 from aide_compare.base.ending import Fault, Status
+from aide_compare.base.files import is_missing
 from aide_compare.base.options import (
     KEEP_OPEN,
     MAX_SIZE,
@@ -58,7 +58,7 @@ def main(arguments: Sequence[str]) -> int:
     if not request.digest:
         raise HELP.fault("give --sha256")
     host = check_name(request.host)
-    if not os.path.lexists(f"{request.store}/hosts/{host}/{NEW_FILE}"):
+    if is_missing(f"{request.store}/hosts/{host}/{NEW_FILE}"):
         text = f"{host}: nothing was fetched yet; see aide-compare hosts add --help"
         raise Fault(Status.DEVICE, text)
     limit_memory(MAX_MEMORY)

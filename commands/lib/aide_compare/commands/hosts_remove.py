@@ -7,6 +7,7 @@ from contextlib import closing, suppress
 
 from aide_compare.base.ending import Fault, OSErrorAsFault, Status, tell
 from aide_compare.base.escapes import shown
+from aide_compare.base.files import is_missing
 from aide_compare.base.options import HOSTS_OPTION, HostsAsked, Operand, field
 from aide_compare.base.parser import Help, read
 from aide_compare.hosts.hosts_file import remove_host
@@ -35,7 +36,7 @@ class RemoveRequest(HostsAsked):
 
 def remove_directory(host: str, store: str, seconds: int) -> bool:
     """Removes what a store keeps of a host. Whether there was something."""
-    if not os.path.lexists(f"{store}/hosts/{host}"):
+    if is_missing(f"{store}/hosts/{host}"):
         return False
     with closing(HostDirectory(store, host, seconds)) as directory:
         with OSErrorAsFault(f"cannot remove the state of {host}"), suppress(FileNotFoundError):

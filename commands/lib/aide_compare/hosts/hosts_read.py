@@ -9,7 +9,7 @@ from contextlib import closing
 
 from aide_compare.base.ending import Fault, Status, reason
 from aide_compare.base.escapes import shown
-from aide_compare.base.files import BLOCK, open_regular
+from aide_compare.base.files import BLOCK, is_missing, open_regular
 from aide_compare.base.words import SIDES, age_in_words
 from aide_compare.compare.state import State, read_state
 from aide_compare.hosts.report_values import CUT, UNREADABLE, WHOLE, Host
@@ -41,7 +41,7 @@ def host_of(name: str, status: int, error: str, state: State | None = None) -> H
 
 def host_in(directory: HostDirectory, max_age: int) -> Host:
     """The host by its state. One that is too old says nothing of today."""
-    if not os.path.lexists(directory.state_path):
+    if is_missing(directory.state_path):
         raise directory.fault("was never compared")
     state = read_state(directory.state_path)
     if state.age is None:
@@ -122,6 +122,6 @@ def directory_of(name: str, store: str, seconds: int) -> HostDirectory:
     """The directory of a host that was compared once. Nothing is made for any other."""
     if not os.path.isdir(store):
         raise Fault(Status.DEVICE, f"there is no directory {shown(store)}")
-    if not os.path.lexists(f"{store}/hosts/{check_name(name)}"):
+    if is_missing(f"{store}/hosts/{check_name(name)}"):
         raise Fault(Status.DEVICE, "was never compared")
     return HostDirectory(store, name, seconds, fcntl.LOCK_SH)

@@ -2,11 +2,11 @@
 status from 0 to 3."""
 from __future__ import annotations
 
-import os
 from enum import IntEnum
 from typing import NamedTuple
 
 from aide_compare.base.escapes import guarded, shown
+from aide_compare.base.files import is_missing
 from aide_compare.base.kinds import AlarmLimit
 from aide_compare.base.words import SEVERITIES, age_in_words, date_of
 from aide_compare.compare.state import State, read_state
@@ -70,7 +70,7 @@ def answer_of(
     path: str, max_age: int, warning: AlarmLimit | None, critical: AlarmLimit | None
 ) -> Answer:
     """What the check says of a state file."""
-    if not os.path.lexists(path):
+    if is_missing(path):
         text = f"there is no {shown(path)}; aide-compare --state writes it"
         return Answer(Level.UNKNOWN, text)
     state = read_state(path)
