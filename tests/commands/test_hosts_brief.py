@@ -22,7 +22,7 @@ class HostsBriefTest(CommandTest):
         changed = (OLD, database(SHADOW))
         other = (database(), database(line(b"/zz")))
         flood = (line(path % number, b"x") for path in FLOODED for number in range(FLOOD // 2))
-        evil = (OLD, database(SHADOW, *flood))
+        evil = (OLD, database(SHADOW, *flood, line(b"/usr/bin/z", b"x", perm=b"100755")))
         hosts.compared({"evil1": evil, "good1": changed, "good2": changed, "good3": other})
         self.stub("sendmail", f'cat > "{self.root}/mail"')
         hosts.report("--to", "root")
@@ -34,6 +34,7 @@ class HostsBriefTest(CommandTest):
             rest = sum(int(count.replace(",", "")) for count in left)
             self.assertEqual(listed + rest, FLOOD, text)
             self.assertRegex(text, r"(?m)^  and [\d,]+ more on evil1$", "whose are left out")
+            self.assertRegex(text, " added +/usr/bin/z: ", "one directory hides no other one")
 
     def test_shape(self) -> None:
         """At most 80 lines of 80 columns, whatever hosts there are, with names of any length."""

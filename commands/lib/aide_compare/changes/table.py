@@ -19,7 +19,7 @@ MAX_ROWS = 1000000
 SCHEMA = f"""
 create table changes (
     place integer primary key, path_key blob, site blob, kind text, owners integer, rank integer,
-    party integer, asked text, line_at integer, line_size integer, hosts integer default 1,
+    party blob, asked text, line_at integer, line_size integer, hosts integer default 1,
     standing text default 'open', package text default '', is_listed integer default false,
     level integer as (rank / {RANKS})
 )"""

@@ -26,21 +26,22 @@ MEMBERS = frozenset("kind path path_hex summary type old new".split())
 # attributes that are of the host, and its line, which the first of those that are the same has.
 FOUND = """
 create table found (
-    host integer, path_key blob, same blob, kind text, owners integer, rank integer, old blob,
-    own text, line blob
+    host integer, path_key blob, directory blob, same blob, kind text, owners integer,
+    rank integer, old blob, own text, line blob
 )"""
 INDEX = "create index found_same on found (same, host)"
 INSERT = """
 insert into found values (
-    ?1, ?2, ?3, ?4, ?5, ?6, ?7, ?8,
-    case when exists (select 1 from found where same = ?3) then null else ?9 end
+    ?1, ?2, ?3, ?4, ?5, ?6, ?7, ?8, ?9,
+    case when exists (select 1 from found where same = ?4) then null else ?10 end
 )"""
 LOADS = "create table loads as select host, count(*) as load from found group by host"
 # Each change once. It counts against the host that has the fewest changes of those that have it: in
-# the row this is the site, and `line_at` says which of the changes of a host it is.
+# the row this is the site, the party is its directory, and `line_at` says which of the changes of a
+# host it is.
 GATHER = """
-insert into changes (path_key, site, kind, owners, rank, line_at, hosts)
-select path_key, host, kind, owners, rank, place, hosts
+insert into changes (path_key, site, kind, owners, rank, party, line_at, hosts)
+select path_key, host, kind, owners, rank, directory, place, hosts
 from (
     select *, found.rowid as place, count(*) as hosts, min(load)
     from found join loads using (host) group by same
@@ -85,6 +86,7 @@ class Fleet:
         row = (
             host,
             key,
+            directory,
             digest_of(what, sorted(labels - own), without(change.new, own)),
             form.kind,
             known.owners,

@@ -80,6 +80,12 @@ MAIL = Room(
     names=10,
     width=80,
 )
+# Those of hosts: the first of each directory of a host before all that these have more.
+IN_ORDER_OF_HOSTS = f"""
+select place, null, site from changes where {PART}
+order by row_number() over (partition by site, party order by {ORDER_OF_PART}) > {MAIL.first},
+    {ORDER_OF_PART}
+"""
 
 
 class Part(NamedTuple):
@@ -150,7 +156,8 @@ def chosen(table: Table, level: int, owners: int, limit: int, room: Room) -> lis
     later: list[int] = []
     spent: Counter[object] = Counter()
     turns: Counter[object] = Counter()
-    for place, party, site in table.ask(IN_ORDER, level, owners):
+    question = IN_ORDER_OF_HOSTS if room.is_of_hosts else IN_ORDER
+    for place, party, site in table.ask(question, level, owners):
         if len(first) == limit:
             break
         # Root is no party, and neither is a host.
