@@ -6,7 +6,6 @@ import os
 import shlex
 from typing import Any
 
-
 from . import mail
 from . import test_standings as standings
 from .sandbox import CommandTest, NOBODY, Texts
@@ -154,6 +153,7 @@ class HandsTest(CommandTest):
         self.assertEqual(os.stat(self.path("his/state")).st_uid, NOBODY, "the user's state")
         words = ("--state", "mine/state", *words[2:])
         self.answered(18, b"", b"cannot write the state file mine/state", TOOL, *words)
+        self.answered(18, b"", [b"database no: ", b"write the state"], TOOL, *words[:3], "no")
         self.answered(7, None, counts, TOOL, "--user", "root", "--report", *words)
         self.assertEqual(self.users(), {"0"})
         names = (self.path("his/o.db"), self.path("mine/n.db"))

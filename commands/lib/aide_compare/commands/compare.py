@@ -114,7 +114,7 @@ class ComparisonJob:
             opened = open_databases(comparison)
         except FAILURES as error:
             comparison.fail(error)
-        self._open_outputs()
+        self._open_outputs(comparison)
         if not comparison.has_failed:
             compare_opened(comparison, opened)
         self._make(comparison)
@@ -125,9 +125,9 @@ class ComparisonJob:
         """The paths of the outputs that are files."""
         return [path for path in self.options.paths if descriptor_of(path) is None]
 
-    def _open_outputs(self) -> None:
+    def _open_outputs(self, comparison: Comparison) -> None:
         """Opens the places of the outputs, as the user in whose directories they and the baseline
-        are may write them."""
+        are may write them. Of two failures the first one is kept, and both are told."""
         state_file = None
         try:
             if not self.options.user:
@@ -136,8 +136,11 @@ class ComparisonJob:
                 state_file = file_output(self.options.state, "the state file", ANYBODY_READS)
             rows = [*self.before, *output_rows(self.options)]
         except Fault as fault:
-            keep_failure(self.options.state, fault)
-            raise
+            reason = comparison.fault or fault
+            keep_failure(self.options.state, reason)
+            if reason is not fault:
+                reason.more += (fault.text,)
+            raise reason
         if state_file:
             rows.append(Row(state_file, state_bytes, of_failure=True))
         self.rows = [*rows, *self.after]

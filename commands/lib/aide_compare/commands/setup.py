@@ -80,15 +80,15 @@ class Machine:
         self.has_timer = os.path.isdir(PATHS.systemd)
         self.is_debian = os.path.lexists(PATHS.debian_configuration)
         self.baseline, self.new = databases_there()
-        daily = os.path.join(PATHS.own_directory, DAILY)
+        self.daily = os.path.join(PATHS.own_directory, DAILY)
         # What the job of each day needs.
         self.needed = [
             f"{DATABASES.name} {self.baseline} {self.new}",
             "--max-age 50h",
-            f"--state {daily}/state",
+            f"--state {self.daily}/state",
         ]
         if self.is_debian:
-            self.needed.append(f"--trusted {daily}/signed.db.old {daily}/signed.db")
+            self.needed.append(f"--trusted {self.daily}/signed.db.old {self.daily}/signed.db")
             # The shipped list names those in AIDE's own directory only.
             if os.path.dirname(self.baseline) != PATHS.databases:
                 own = (self.baseline, self.new, f"{self.baseline}.previous")
@@ -210,9 +210,8 @@ class Machine:
         title = f"options of each day: {PATHS.defaults}"
         asked = (self.request.address, self.needed)
         yield Step(title, has_options(*asked), partial(write_options, *asked))
-        directory = os.path.join(PATHS.own_directory, DAILY)
-        title = f"a directory of {user}'s: {directory}"
-        yield Step(title, self.owns(directory), self.make_directory)
+        title = f"a directory of {user}'s: {self.daily}"
+        yield Step(title, self.owns(self.daily), self.make_directory)
         if self.is_debian and self.has_timer:
             title = f"upgrades to signed packages are silent: {PATHS.signed}"
             yield Step(title, os.path.lexists(PATHS.signed), make_signed)
@@ -243,7 +242,7 @@ def take_steps(machine: Machine) -> None:
 def tell_missing(machine: Machine) -> int:
     """Says what is missing, and changes nothing."""
     missing = [step.title for step in machine.steps() if not step.is_done]
-    missing += troubles(os.path.join(PATHS.own_directory, DAILY, "mail"))
+    missing += troubles(f"{machine.daily}/mail")
     if not missing:
         tell("nothing is missing")
         return Status.OK
