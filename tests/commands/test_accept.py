@@ -6,7 +6,6 @@ import os
 import shutil
 from collections.abc import Callable
 
-
 from .accepting import DIGEST, DONE, FILES, OLDER, TOOL, AcceptingTest, contents, fresh
 from .sandbox import AS_NOBODY, END, HEAD, NEW, NOBODY, OLD, sha256
 

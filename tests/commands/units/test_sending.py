@@ -11,7 +11,6 @@ from tests.commands.units.calls import OTHER, ModuleTest
 from aide_compare.base.directories import names_in, open_directory
 from aide_compare.mail import sending
 
-
 MAIL = b"To: root\nSubject: x\n\nbody\n"
 
 

@@ -9,9 +9,8 @@ from tests.commands.units.calls import ModuleTest
 from tests.lib.programs import find_program, lines_program_of
 
 from aide_compare.base.ending import Fault
-from aide_compare.commands import setup_databases, setup_options
+from aide_compare.commands import setup_databases, setup_machine, setup_options
 from aide_compare.commands.setup_databases import databases_there
-from aide_compare.commands.setup_machine import Paths
 from aide_compare.compare import asking
 
 BOTH = "database_in=file:/a\ndatabase_new=file:/c\n"
@@ -47,10 +46,11 @@ class SetupDatabasesTest(ModuleTest):
     def setUp(self) -> None:
         super().setUp()
         program = lines_program_of(find_program())
-        paths = Paths(self.root)
+        paths = setup_machine.Paths(self.root)
         for module, name, value in (
             (asking, "find_installed", lambda name: program),
             (setup_databases, "PATHS", paths),
+            (setup_machine, "PATHS", paths),
             (setup_options, "PATHS", paths),
             (os, "uname", lambda: mock.Mock(nodename="w\nww@-1")),
         ):

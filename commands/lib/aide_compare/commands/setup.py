@@ -4,6 +4,7 @@ run a second time, or after it was interrupted."""
 from __future__ import annotations
 
 import os
+import re
 import stat
 from collections.abc import Callable, Iterator, Sequence
 from contextlib import suppress
@@ -20,6 +21,7 @@ from aide_compare.base.parser import Help, read
 from aide_compare.base.words import counted
 from aide_compare.commands.setup_machine import (
     PATHS,
+    aides_configuration,
     aides_user,
     make_cron_job,
     make_signed,
@@ -28,7 +30,13 @@ from aide_compare.commands.setup_machine import (
     run_shown,
     says_yes,
 )
-from aide_compare.commands.setup_options import DAILY, has_options, options_there, write_options
+from aide_compare.commands.setup_options import (
+    DAILY,
+    has_options,
+    options_there,
+    text_there,
+    write_options,
+)
 from aide_compare.commands.setup_databases import databases_there
 from aide_compare.mail.waiting import troubles
 
@@ -43,6 +51,7 @@ Status: 0 done, or nothing is missing; 18 a step failed, or --check found someth
 )
 TIMER = "aide-compare.timer"
 EXIM = "Exim puts it into /var/mail/mail if /etc/aliases has no line for root, such as root: YOU"
+COPIES = r"(?m)^[^#\n]*\bCOPYNEWDB=\W?(?:yes|ifn)"
 DATABASE_STARTS = (b"\x1f\x8b", b"@@begin_db", b"#")
 SECONDS_OF_INIT = 6 * 3600
 # What aide-compare archive reads. What a newer package replaces goes again.
@@ -78,7 +87,7 @@ class Machine:
         self.request = request
         self.user = aides_user()
         self.has_timer = os.path.isdir(PATHS.systemd)
-        self.is_debian = os.path.lexists(PATHS.debian_configuration)
+        self.is_debian = aides_configuration() == PATHS.debian_configuration
         self.baseline, self.new = databases_there()
         self.daily = os.path.join(PATHS.own_directory, DAILY)
         # What the job of each day needs.
@@ -154,9 +163,13 @@ class Machine:
         )
 
     def refuse_other_job(self) -> None:
-        """With two jobs each mail would come twice."""
+        """With two jobs each mail would come twice. If AIDE's own makes what it wrote the baseline,
+        there would never be a difference."""
         if self.has_timer and os.path.lexists(PATHS.cron_job):
             text = f"{PATHS.cron_job} compares each day, and so does the timer: remove it"
+            raise Fault(Status.DEVICE, text)
+        if re.search(COPIES, text_there(PATHS.aides_job)):
+            text = f"{PATHS.aides_job} makes each new database the baseline: write COPYNEWDB=no"
             raise Fault(Status.DEVICE, text)
 
     def reader(self) -> str:
@@ -256,10 +269,6 @@ def main(arguments: Sequence[str]) -> int:
     request = read(SetupRequest, arguments, HELP)
     if request.is_quiet:  # Also the programs that are run.
         os.dup2(os.open("/dev/null", os.O_WRONLY | os.O_CLOEXEC), 1)
-    configurations = (PATHS.debian_configuration, PATHS.other_configuration)
-    if not any(map(os.path.lexists, configurations)):
-        text = "AIDE is not installed here, or not configured; on Debian: apt install aide-common"
-        raise Fault(Status.DEVICE, text)
     if os.geteuid() != 0 and not request.is_check:
         raise Fault(Status.USAGE, "only root can set this up; --check is for everybody")
     os.chdir("/")  # Where the programs of the system work.

@@ -8,7 +8,7 @@ import re
 from aide_compare.base.ending import Fault, Status
 from aide_compare.base.escapes import shown
 from aide_compare.base.options import DATABASES
-from aide_compare.commands.setup_machine import PATHS
+from aide_compare.commands.setup_machine import PATHS, aides_configuration
 from aide_compare.commands.setup_options import options_there
 from aide_compare.compare.asking import settings_of
 from aide_compare.compare.configuration import ConfigurationTexts, configuration_in
@@ -27,9 +27,7 @@ def databases_there() -> list[str]:
     named = options_there().get(DATABASES.name, "").split()
     if len(named) == DATABASES.number_of_values:
         return named
-    path = PATHS.other_configuration
-    if os.path.lexists(PATHS.debian_configuration):
-        path = PATHS.debian_configuration
+    path = aides_configuration()
     host = re.sub(OTHER_BYTES, b"", os.fsencode(os.uname().nodename))
     text = b"@@define HOSTNAME %s\n" % host + re.sub(INCLUDES, b"", configuration_in(path))
     named = named_by(text)

@@ -28,6 +28,7 @@ class Paths:
     def __init__(self, root: str) -> None:
         self.debian_configuration = f"{root}/etc/aide/aide.conf"
         self.other_configuration = f"{root}/etc/aide.conf"
+        self.aides_job = f"{root}/etc/default/aide"
         self.databases = f"{root}/var/lib/aide"
         self.own_directory = f"{root}/var/lib/aide-compare"
         self.defaults = f"{root}/etc/aide-compare/defaults"
@@ -56,11 +57,21 @@ def example(name: str) -> bytes:
     raise Fault(Status.DEVICE, f"the example {name} did not come with this command")
 
 
+def aides_configuration() -> str:
+    """The path of AIDE's configuration; a Fault without one."""
+    for path in (PATHS.debian_configuration, PATHS.other_configuration):
+        if os.path.lexists(path):
+            return path
+    text = "AIDE is not installed here, or not configured; on Debian: apt install aide-common"
+    raise Fault(Status.DEVICE, text)
+
+
 def run_shown(words: Sequence[str], seconds: int = SECONDS) -> None:
     """Runs a program of the system, whose status has to be 0. It is shown first, and writes where
     this command writes."""
     tell("    " + " ".join(words))
-    status = status_of(words, seconds)
+    with OSErrorAsFault(f"cannot run {words[0]}"):
+        status = run_here(words, seconds, ENVIRONMENT)
     if status:
         raise Fault(Status.DEVICE, f"{words[0]} ended with status {status}")
 
@@ -88,12 +99,6 @@ def rename_safely(old: str, new: str) -> None:
                 raise Fault(Status.DEVICE, f"other users can write in {shown(path)}")
         with OSErrorAsFault(f"cannot rename {shown(old)}"):
             os.rename(old_name, new_name, src_dir_fd=here.fd, dst_dir_fd=there.fd)
-
-
-def status_of(words: Sequence[str], seconds: int) -> int:
-    """The status with which a program of the system ends, which writes where this command does."""
-    with OSErrorAsFault(f"cannot run {words[0]}"):
-        return run_here(words, seconds, ENVIRONMENT)
 
 
 def says_yes(words: Sequence[str]) -> bool:

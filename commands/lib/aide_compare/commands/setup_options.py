@@ -23,24 +23,26 @@ FIRST_LINES = """\
 MAX_OPTIONS_BYTES = 1 << 16
 
 
-def text_there() -> str:
-    """The text of the file; nothing without one. Its last line has an end."""
+def text_there(path: str) -> str:
+    """The text of a file; nothing without one. Its last line has an end."""
     with suppress(Fault, OSError):
-        text = os.fsdecode(read_file(PATHS.defaults, MAX_OPTIONS_BYTES))
+        text = os.fsdecode(read_file(path, MAX_OPTIONS_BYTES))
         return text if text.endswith("\n") else f"{text}\n"
     return ""
 
 
 def options_there() -> dict[str, str]:
     """The options of each day, which an administrator may have changed."""
-    found = (re.fullmatch(DEFAULTS_LINE, line.strip()) for line in text_there().split("\n"))
+    found = (
+        re.fullmatch(DEFAULTS_LINE, line.strip()) for line in text_there(PATHS.defaults).split("\n")
+    )
     return {match.group(1): match.group(2) or "" for match in found if match}
 
 
 def missing_lines(needed: Sequence[str]) -> list[str]:
     """Those of the lines that the job of each day needs that no line of the file mentions. One that
     an administrator has made a comment stays one."""
-    there = text_there()
+    there = text_there(PATHS.defaults)
     names = [re.escape(line.split()[0]) for line in needed]
     return [
         line
@@ -66,7 +68,7 @@ def write_options(address: str | None, needed: Sequence[str]) -> None:
         if not is_told(address):
             why = f"{PATHS.defaults} stays as it is; write there: {TO.name} {shown(address or '')}"
             raise Fault(Status.DEVICE, why)
-        text = text_there()
+        text = text_there(PATHS.defaults)
     else:
         text = FIRST_LINES
         if address:
