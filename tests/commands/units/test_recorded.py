@@ -16,7 +16,7 @@ FILE = LINK._replace(type="File")
 
 class RecordedTest(ModuleTest):
     def test_names(self) -> None:
-        targets = Matcher(Table(), lambda _: LINK).targets
+        targets = Matcher(Table(), lambda *_: iter([LINK])).targets
         rows: list[tuple[Value, bytes]] = [("c", b"/a/c"), (b"../../c", b"/c"), ("//c/.", b"/c")]
         for link, target in rows:
             self.gives({target + b"\n"}, targets, LINK._replace(new={"Lname": link}))
@@ -45,7 +45,7 @@ class RecordedTest(ModuleTest):
             ("only listed", strong, "", 11, False),
         ]
         for label, new, of, room, fits in rows:
-            matcher = Matcher(Table(), lambda _: LINK)
+            matcher = Matcher(Table(), lambda *_: iter([LINK]))
             self.expect("the room", matcher.remaining, 2 << 30)
             matcher.remaining = BLOCK + room
             self.expect(label, matcher.has(FILE._replace(path=path, new=new), of, {}), fits)

@@ -39,7 +39,7 @@ class TableTest(ModuleTest):
             many = [change(b"/%d" % number + b"n" * 999) for number in range(99)]
             self.fails(18, "cannot keep rows in ", table_of, *many)
         table = table_of(*few)
-        self.fails(18, "no such column", lambda: list(table.rows("odd")))
+        self.fails(18, "no such column", lambda: list(table.paths("odd")))
         self.fails(18, "no such table", table.do, "delete from odd")
         with mock.patch.object(sqlite3, "connect", side_effect=sqlite3.OperationalError("why")):
             self.fails(18, "name another directory by TMPDIR): why", Table)
@@ -50,7 +50,7 @@ class TableTest(ModuleTest):
         places = [f"{number // 7}/{number % 7}" for number in range(35)]
         changes = [change(f"/home/{place}".encode(), 1000, "low") for place in places]
         parts = digest(table_of(*changes), MAIL._replace(height=40), lambda *_: "")
-        listed = [row.path.decode()[-3:] for part in parts for row in part.rows]
+        listed = [places[place - 1] for part in parts for place in part.places]
         # Behind ten of two directories are the others, as many of each again.
         wanted = [place for place in places if place[0] == "1" or place[-1] < "5"]
         self.assertEqual(listed, wanted)

@@ -15,11 +15,12 @@ from itertools import islice
 
 from aide_compare.base.ending import Fault, Status
 from aide_compare.base.escapes import shown
+from aide_compare.base.paths import key_of_path
 from aide_compare.base.words import SEVERITIES, status_of_counts
 from aide_compare.changes.packages import Dpkg, Rpm
 from aide_compare.changes.recorded import Matcher
 from aide_compare.changes.severity import RANKS, Severity
-from aide_compare.changes.table import RECORDED, Marks, Row, Table, Values
+from aide_compare.changes.table import RECORDED, Marks, Table, Values
 from aide_compare.changes.weighing import directory_of, known_of
 from aide_compare.lines.change import Change, Counts, Standing, change_of
 from aide_compare.lines.reader import Form, Forms, Reader
@@ -137,9 +138,10 @@ class Judged:
         """The line of a change by where it begins."""
         return os.pread(self.file.fileno(), size, at)
 
-    def read(self, row: Row) -> Change:
-        """The values of a change, as its line has them."""
-        return change_of(json.loads(self.line(row.line_at, row.line_size)))
+    def read(self, condition: str, *values: object) -> Iterator[Change]:
+        """Yields the values of changes that are in the table, as their lines have them."""
+        for line_at, size, _ in self.table.marks(condition, *values):
+            yield change_of(json.loads(self.line(line_at, size)))
 
 
 def named_packages(changes: Table, has_pair: bool) -> dict[str, list[str]]:
@@ -147,14 +149,14 @@ def named_packages(changes: Table, has_pair: bool) -> dict[str, list[str]]:
     digests are not as in it: by their titles, in the order in which people read them."""
     named: dict[str, dict[str, None]] = {title: {} for title in TITLES}
     unsigned, new, removed = named.values()
-    for row in changes.below(b"/var/lib/dpkg/info"):
-        if match := NAMING.fullmatch(row.path):
+    for path, kind in changes.paths("site = ?", key_of_path(b"/var/lib/dpkg/info")):
+        if match := NAMING.fullmatch(path):
             name = shown(match[1], 100)
-            if row.kind == "removed":
+            if kind == "removed":
                 removed[name] = None
             elif has_pair and match[2] == b"md5sums":
                 unsigned[name] = None
-            elif row.kind == "added" and match[2] == b"list":
+            elif kind == "added" and match[2] == b"list":
                 new[name] = None
     for name in unsigned:
         new.pop(name, None)

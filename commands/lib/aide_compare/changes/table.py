@@ -8,7 +8,7 @@ from itertools import chain, islice
 from typing import NamedTuple
 
 from aide_compare.base.ending import Fault, Status
-from aide_compare.base.paths import key_of_path, path_of
+from aide_compare.base.paths import path_of
 from aide_compare.base.rows import Rows
 from aide_compare.base.words import SEVERITIES
 from aide_compare.changes.severity import RANKS
@@ -58,24 +58,6 @@ class Marks(NamedTuple):
         return embedded(known).replace(b"{", b",", 1)
 
 
-class Row(NamedTuple):
-    """What people read of a change that is not silent."""
-
-    place: int  # In the order of paths.
-    path_key: bytes
-    kind: str
-    level: int  # The place of its severity in SEVERITIES.
-    line_at: int  # Where its line begins.
-    line_size: int
-
-    @property
-    def path(self) -> bytes:
-        return path_of(self.path_key)
-
-
-COLUMNS = ", ".join(Row._fields)
-
-
 class Table(Rows):
     """Takes changes in the order of paths, and gives them in any order."""
 
@@ -94,22 +76,26 @@ class Table(Rows):
             text = f"there are more than {MAX_ROWS} changes that are not silent"
             raise Fault(Status.DEVICE, text)
 
-    def rows(self, condition: str = "true", *values: object, order: str = ORDER) -> Iterator[Row]:
-        """Yields rows in an order, the one in which people read them if no other is given."""
-        question = f"select {COLUMNS} from changes where {condition} order by {order}"
-        return map(Row._make, self.ask(question, *values))
+    def places(self, order: str = ORDER) -> Iterator[int]:
+        """Yields the places of all changes in an order, the one in which people read them if no
+        other is given."""
+        for (place,) in self.ask(f"select place from changes order by {order}"):
+            yield place
+
+    def paths(self, condition: str, *values: object) -> Iterator[tuple[bytes, str]]:
+        """Yields the paths of changes in their order, and the kinds."""
+        question = f"select path_key, kind from changes where {condition} order by place"
+        for key, kind in self.ask(question, *values):
+            yield path_of(key), kind
 
     def marks(
-        self, condition: str = "true", order: str = ORDER
+        self, condition: str = "true", *values: object, order: str = ORDER
     ) -> Iterator[tuple[int, int, Marks]]:
         """Yields where lines begin, their sizes and their marks, in an order."""
         columns = "line_at, line_size, standing, level, package"
         question = f"select {columns} from changes where {condition} order by {order}"
-        for line_at, line_size, standing, level, package in self.ask(question):
+        for line_at, line_size, standing, level, package in self.ask(question, *values):
             yield line_at, line_size, Marks(standing, SEVERITIES[level], package)
-
-    def row(self, place: int) -> Row:
-        return next(self.rows("place = ?", place))
 
     def record(self, place: int, package: str) -> None:
         """Notes that the records of a package have a change."""
@@ -120,7 +106,3 @@ class Table(Rows):
     def forget_records(self) -> None:
         """Leaves each change open."""
         self.do("update changes set standing = 'open', package = ''")
-
-    def below(self, directory: bytes) -> Iterator[Row]:
-        """The changes in a directory, in the order of paths."""
-        return self.rows("site = ?", key_of_path(directory), order="place")

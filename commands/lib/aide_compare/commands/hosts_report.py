@@ -128,8 +128,8 @@ class HostsReport:
         hosts = self.report.hosts
         for fields in (self.report.summary.fields(), *(host.fields() for host in hosts)):
             yield line_of(fields)
-        for row in self.fleet.table.rows(order="place"):
-            yield line_of(self.fleet.shared(row, len(hosts)).fields)
+        for place in self.fleet.table.places(order="place"):
+            yield line_of(self.fleet.shared(place, len(hosts)).fields)
 
     def brief(self) -> Iterator[bytes]:
         """Yields the lines of the short text."""

@@ -12,7 +12,7 @@ from collections.abc import Iterable, Sequence
 
 from aide_compare.base.words import SEVERITIES, SIDES
 from aide_compare.changes.severity import RANKS, Severity
-from aide_compare.changes.table import Row, Table
+from aide_compare.changes.table import Table
 from aide_compare.changes.weighing import known_of
 from aide_compare.hosts.report_values import SharedChange
 from aide_compare.lines.attributes import FORMS
@@ -47,8 +47,9 @@ from (
     from found join loads using (host) group by same
 ) order by path_key, same"""
 SAME = """
-select host, old, own, line from found
-where same = (select same from found where rowid = ?) order by host"""
+select host, old, own, line, rank from found where same = (
+    select same from found where rowid = (select line_at from changes where place = ?)
+) order by host"""
 
 
 def digest_of(*values: object) -> bytes:
@@ -102,22 +103,22 @@ class Fleet:
         self.table.do(LOADS)
         self.table.do(GATHER)
 
-    def shared(self, row: Row, max_names: int) -> SharedChange:
-        """A change on some hosts, of which at most so many are named. Values that are of one host
-        are shown if there is only one; of old values that are not the same, only the names of
-        their attributes."""
+    def shared(self, place: int, max_names: int) -> SharedChange:
+        """The change at a place of the table, on some hosts, of which at most so many are named.
+        Values that are of one host are shown if there is only one; of old values that are not the
+        same, only the names of their attributes."""
         hosts: list[int] = []
         olds: set[bytes] = set()
         owns: set[str] = set()
         text = b""
-        for host, old, own, line in self.table.ask(SAME, row.line_at):
+        for host, old, own, line, rank in self.table.ask(SAME, place):
             hosts.append(host)
             olds.add(old)
             owns.update(own.split(","))
             text = line or text
         whole = differing(json.loads(text))
         fields: Fields = {name: value for name, value in whole.items() if name in MEMBERS}
-        fields["severity"] = SEVERITIES[row.level]
+        fields["severity"] = SEVERITIES[rank // RANKS]
         if len(hosts) > 1:
             blend(fields, owns)
             if len(olds) > 1:

@@ -24,6 +24,7 @@ from aide_compare.show.page import BESIDE, MAX_PAGE, page as whole_page, row_of
 from aide_compare.show.page import size_beside
 
 MAX_LIST = 1500000  # Of each list of hosts.
+LEVELS = "select level, count(*) from changes group by 1"
 MIN_ROW = 400  # So many bytes most rows have at least.
 
 
@@ -82,17 +83,17 @@ def page(report: Report, limit: int = 0) -> Iterator[bytes]:
     title = headline(report.summary)
     text = "\n".join(short_lines(report))
     room = (limit or MAX_PAGE) - size_beside(title, text, lambda: heading_of(report, total, total))
-    left_out = Counter(row.level for row in report.table.rows())
+    left_out = Counter(dict(report.table.ask(LEVELS)))
 
     def rows() -> Iterator[bytes]:
         size = 0
         for part in digest(report.table, room_of(report, max(room // MIN_ROW, 1)), lambda *_: ""):
-            for row in part.rows:
-                data = shared_row(report.shared(row), report.summary.counts.hosts)
+            for shared in map(report.shared, part.places):
+                data = shared_row(shared, report.summary.counts.hosts)
                 size += len(data) + BESIDE
                 if size > room:
                     return
-                left_out[row.level] -= 1
+                left_out[part.level] -= 1
                 yield data
 
     def heading() -> Fields:

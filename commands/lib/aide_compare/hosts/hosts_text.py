@@ -11,7 +11,7 @@ from typing import NamedTuple
 
 from aide_compare.base.escapes import guarded
 from aide_compare.base.words import SEVERITIES, counted
-from aide_compare.changes.table import Row, Table
+from aide_compare.changes.table import Table
 from aide_compare.hosts.hosts_read import words_of
 from aide_compare.hosts.report_values import CUT, UNREADABLE, Host, SharedChange, Summary
 from aide_compare.lines.attributes import word_of
@@ -42,7 +42,7 @@ class Report(NamedTuple):
     summary: Summary
     hosts: list[Host]
     table: Table  # The changes.
-    shared: Callable[[Row], SharedChange]
+    shared: Callable[[int], SharedChange]  # By its place.
     command: Sequence[str]  # The words of the command that prints the whole text.
 
 
@@ -109,8 +109,8 @@ def report_lines(report: Report) -> Iterator[str]:
     if summary.changes:
         yield ""
         yield f"{counted(summary.changes, 'different change')}, {ORDER}:"
-    for row in report.table.rows():
-        yield from shared_lines(report.shared(row), summary.counts.hosts)
+    for shared in map(report.shared, report.table.places()):
+        yield from shared_lines(shared, summary.counts.hosts)
 
 
 def short_names(shared: SharedChange) -> str:
@@ -129,22 +129,18 @@ def more_hosts(count: int) -> str:
     return f" +{count}"
 
 
-def grouped_lines(report: Report, rows: Iterable[Row]) -> Iterator[str]:
+def grouped_lines(report: Report, places: Iterable[int]) -> Iterator[str]:
     """The lines of some changes, with those of the same hosts together, of which only the first one
     names them."""
-    groups: dict[tuple[str, ...], list[Row]] = {}
-    shared = {}
-    for row in rows:
-        change = report.shared(row)
-        shared[row.place] = change
-        groups.setdefault((*change.names, str(change.hosts)), []).append(row)
+    groups: dict[tuple[str, ...], list[SharedChange]] = {}
+    for shared in map(report.shared, places):
+        groups.setdefault((*shared.names, str(shared.hosts)), []).append(shared)
 
     for group in groups.values():
-        names = short_names(shared[group[0].place])
-        for row in group:
-            change = shared[row.place]
-            words = entry_words(change.change, change.per_host)
-            yield entry_line(row, words, f"  {names:<{NAMES_WIDTH}}  ", MAX_COLUMNS)
+        names = short_names(group[0])
+        for shared in group:
+            words = entry_words(shared.change, shared.per_host)
+            yield entry_line(shared.change, words, f"  {names:<{NAMES_WIDTH}}  ", MAX_COLUMNS)
             names = ""
 
 

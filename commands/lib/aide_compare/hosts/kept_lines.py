@@ -43,7 +43,7 @@ def kept_lines(judged: Judged, limit: int) -> Iterator[bytes]:
     yield os.pread(judged.file.fileno(), judged.begin, 0)
     forms = Forms()
     counted: Counter[str] = Counter()
-    for line_at, size, _ in table.marks("is_listed", "place"):
+    for line_at, size, _ in table.marks("is_listed", order="place"):
         line = judged.line(line_at, size)
         counted.update(forms.of(line).counted)
         yield line

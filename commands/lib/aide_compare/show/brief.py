@@ -2,12 +2,11 @@
 what is open, the most severe first, and then what is recorded, package by package."""
 from __future__ import annotations
 
-from collections.abc import Iterator, Sequence
+from collections.abc import Iterable, Iterator, Sequence
 
 from aide_compare.base.escapes import encoded, guarded
 from aide_compare.base.words import SEVERITIES
 from aide_compare.changes.judged import Judged
-from aide_compare.changes.table import Row
 from aide_compare.lines.change import Counts, Standing
 from aide_compare.show.digest import SCREEN, Room, entry_line, in_directory, open_lines
 from aide_compare.show.entry import entry_words
@@ -57,9 +56,10 @@ def brief(judged: Judged, room: Room, warnings: Sequence[str] = (), height: int 
         used = len(head) + sum(len(part) + 1 for part in end if part) + 1 + len(SEVERITIES)
         room = room._replace(height=max(height - used, 1))
 
-    def lines_of(rows: Iterator[Row]) -> Iterator[str]:
-        for row in rows:
-            yield entry_line(row, entry_words(judged.read(row)), "  ", room.width)
+    def lines_of(places: Iterable[int]) -> Iterator[str]:
+        for place in places:
+            (change,) = judged.read("place = ?", place)
+            yield entry_line(change, entry_words(change), "  ", room.width)
 
     lines = head
     for part in (list(open_lines(judged.table, room, in_directory, lines_of)), *end):

@@ -10,13 +10,14 @@ from __future__ import annotations
 
 import re
 from collections import Counter
-from collections.abc import Callable, Iterator, Sequence
+from collections.abc import Callable, Iterable, Iterator, Sequence
 from typing import Any, NamedTuple
 
 from aide_compare.base.escapes import shown
 from aide_compare.base.paths import path_of
 from aide_compare.base.words import SEVERITIES
-from aide_compare.changes.table import LISTED, ORDER_OF_PART, Row, Table
+from aide_compare.changes.table import LISTED, ORDER_OF_PART, Table
+from aide_compare.lines.change import Change
 
 MAX_LETTERS = 400  # Of a path in a line of any width.
 MIN_WIDTH = 24  # Of a path, however little room there is.
@@ -89,11 +90,11 @@ order by row_number() over (partition by site, party order by {ORDER_OF_PART}) >
 
 
 class Part(NamedTuple):
-    """The open changes of one severity and one group of owners: those that are listed, and the
-    words that count the others."""
+    """The open changes of one severity and one group of owners: the places of those that are
+    listed, and the words that count the others."""
 
-    severity: str
-    rows: Iterator[Row]
+    level: int  # The place of the severity in SEVERITIES.
+    places: list[int]
     rest: list[str]
 
 
@@ -133,19 +134,19 @@ def digest(table: Table, room: Room, names: Names) -> Iterator[Part]:
         table.do_all(TURN, zip(places))
         rest = list(rest_words(table, level, owners, size - len(places), room, names))
         table.do_all(TURN, zip(places))
-        yield Part(SEVERITIES[level], map(table.row, places), rest)
+        yield Part(level, places, rest)
 
 
 def open_lines(
-    table: Table, room: Room, names: Names, lines_of: Callable[[Iterator[Row]], Iterator[str]]
+    table: Table, room: Room, names: Names, lines_of: Callable[[Iterable[int]], Iterator[str]]
 ) -> Iterator[str]:
     """The lines for the open changes that there is room for, each severity under its title."""
-    last = ""
+    last = None
     for part in digest(table, room, names):
-        if part.severity != last:
-            yield f"Open, severity {part.severity}:"
-        last = part.severity
-        yield from lines_of(part.rows)
+        if part.level != last:
+            yield f"Open, severity {SEVERITIES[part.level]}:"
+        last = part.level
+        yield from lines_of(part.places)
         yield from (f"  {words}" for words in part.rest)
 
 
@@ -201,11 +202,11 @@ def shortened_path(path: bytes, width: int) -> str:
     return shortened(shown(path, 4096), max(width or MAX_LETTERS, MIN_WIDTH))
 
 
-def entry_line(row: Row, words: str, begin: str, width: int) -> str:
+def entry_line(change: Change, words: str, begin: str, width: int) -> str:
     """As in "  changed  /usr/bin/ls: content, mode -rwxr-xr-x -> -rwsr-xr-x", after some beginning,
     and with those words that fit."""
-    line = f"{begin}{row.kind:<7}  "
-    line += shortened_path(row.path, width and width - len(line))
+    line = f"{begin}{change.kind:<7}  "
+    line += shortened_path(change.path, width and width - len(line))
     separator = ": "
     for word in words.split(", "):
         room = width - len(line) - len(separator)

@@ -27,8 +27,8 @@ def files_words(count: int, high: int = 0) -> str:
 
 def high_line(table: Table, package: str, width: int) -> str:
     """The paths of a package's changes of severity high."""
-    rows = table.rows(f"{RECORDED} and level = 0 and package = ?", package, order="place")
-    paths = [row.path for row in rows]
+    high = table.paths(f"{RECORDED} and level = 0 and package = ?", package)
+    paths = [path for path, _ in high]
     each = MAX_LETTERS
     if width:
         each = (width - len("    ") - 2 * len(paths)) // len(paths)

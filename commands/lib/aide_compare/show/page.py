@@ -246,7 +246,7 @@ class Rows:
 def lines_in_order(judged: Judged) -> Iterator[tuple[bytes, Marks]]:
     """The lines of all changes with their marks, those that are read first before the others."""
     table = judged.table
-    for line_at, size, marks in chain(table.marks(LISTED), table.marks(RECORDED, BY_PACKAGE)):
+    for line_at, size, marks in chain(table.marks(LISTED), table.marks(RECORDED, order=BY_PACKAGE)):
         yield judged.line(line_at, size), marks
     if judged.counts.silent:
         for line, marks in judged.lines():
