@@ -35,11 +35,11 @@ insert into found values (
     ?1, ?2, ?3, ?4, ?5, ?6, ?7, ?8, ?9,
     case when exists (select 1 from found where same = ?4) then null else ?10 end
 )"""
-LOADS = "create table loads as select host, count(*) as load from found group by host"
 # Each change once. It counts against the host that has the fewest changes of those that have it: in
 # the row this is the site, the party is its directory, and `line_at` says which of the changes of a
 # host it is.
 GATHER = """
+with loads as (select host, count(*) as load from found group by host)
 insert into changes (path_key, site, kind, owners, rank, party, line_at, hosts)
 select path_key, host, kind, owners, rank, directory, place, hosts
 from (
@@ -100,7 +100,6 @@ class Fleet:
 
     def gather(self) -> None:
         """Makes one of the changes that are the same, when all were taken."""
-        self.table.do(LOADS)
         self.table.do(GATHER)
 
     def shared(self, place: int, max_names: int) -> SharedChange:
