@@ -99,13 +99,8 @@ def lines_of_file(text: bytes, path: str) -> Iterator[Line]:
         yield Line(line, f"{name}, line {number}")
 
 
-def read_exclusions(files: Sequence[str], patterns: Sequence[str]) -> Exclusions | None:
-    """The lines of --exclude-from FILE and of --exclude LINE, in the order of the command line.
-
-    None without any.
-    """
-    if not files and not patterns:
-        return None
+def read_exclusions(files: Sequence[str], patterns: Sequence[str]) -> Exclusions:
+    """The lines of --exclude-from FILE and of --exclude LINE, in the order of the command line."""
     texts = {}
     lines: list[Line] = []
     for path in files:
