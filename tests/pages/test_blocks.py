@@ -235,9 +235,9 @@ class WordsTest(unittest.TestCase):
                 self.assertGreater(len(listed), 1)
                 is_comparison = os.path.basename(page) in COMPARISONS
                 others = listed_by([front(), "compare"]) if is_comparison else set()
-                self.assertLessEqual(listed - others, named)
-                self.assertLessEqual(named, listed | more)
-                self.assertLessEqual({name for name in listed if len(name) > 2}, tried)
+                self.assertFalse(listed - others - named, "the page has no entry")
+                self.assertFalse(named - listed - more, "no command has it")
+                self.assertFalse({name for name in listed - tried if len(name) > 2}, "untested")
 
     def test_defaults(self) -> None:
         """The pages of a comparison and its mail name the options of the administrator's file."""
