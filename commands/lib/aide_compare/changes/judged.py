@@ -19,13 +19,13 @@ from aide_compare.base.paths import key_of_path
 from aide_compare.base.words import SEVERITIES, status_of_counts
 from aide_compare.changes.packages import Dpkg, Rpm
 from aide_compare.changes.recorded import Matcher
-from aide_compare.changes.severity import RANKS, Severity
-from aide_compare.changes.table import RECORDED, Marks, Table, Values
+from aide_compare.changes.severity import Severity
+from aide_compare.changes.table import Marks, Table, Values
 from aide_compare.changes.weighing import directory_of, known_of
 from aide_compare.lines.change import Change, Counts, Standing, change_of
 from aide_compare.lines.reader import Form, Forms, Reader
 
-RECORDED_LEVELS = f"select level, count(*) from changes where {RECORDED} group by 1"
+COUNTS = "select standing, level, kind, count(*) from changes group by 1, 2, 3"
 # The titles above the packages that people hear of first.
 TITLES = ("Unsigned packages", "New packages", "Removed packages")
 # The files of a package among dpkg's records.
@@ -44,7 +44,6 @@ class Judged:
         self.named: dict[str, list[str]] = {}
         self.by = ""
         self.silent: Counter[str] = Counter()
-        self.ranks: Counter[tuple[str, int]] = Counter()  # Of the others, by their kinds, too.
         # How many changes the lines of the list leave out, by their numbers.
         self.left_out: Counter[int] = Counter()
         self.table = Table()
@@ -73,14 +72,12 @@ class Judged:
                     known = form.value(known_of)
                     rank_of = severity.ranks(directory, known.held)
                     site = bytearray(directory_of(key))
-                rank = rank_of(name)
-                self.ranks[form.kind, rank] += 1
                 yield (
                     bytearray(key),
                     site,
                     form.kind,
                     known.owners,
-                    rank,
+                    rank_of(name),
                     known.party,
                     known.asked,
                     line_at,
@@ -92,14 +89,11 @@ class Judged:
     def counts(self) -> Counts:
         """The counts of all. They are asked for when the changes are grouped."""
         numbers = self.silent.copy()
-        numbers["open"] = len(self.table)
-        for (_, rank), size in self.ranks.items():
-            numbers[f"open_{SEVERITIES[rank // RANKS]}"] += size
-        for level, size in self.table.ask(RECORDED_LEVELS):
-            for name in ("", f"_{SEVERITIES[level]}"):
-                numbers[f"open{name}"] -= size
-                numbers[f"recorded{name}"] += size
-        kinds = {kind for kind, _ in self.ranks}
+        kinds = set()
+        for standing, level, kind, size in self.table.ask(COUNTS):
+            numbers[standing] += size
+            numbers[f"{standing}_{SEVERITIES[level]}"] += size
+            kinds.add(kind)
         status = status_of_counts(("added" in kinds, "removed" in kinds, "changed" in kinds))
         counts = Counts(**numbers, told_status=status)
         if not counts.fits(self.changes):
