@@ -4,7 +4,7 @@ from __future__ import annotations
 
 from collections.abc import Iterable, Iterator
 from functools import lru_cache
-from itertools import chain, islice
+from itertools import islice
 from typing import NamedTuple
 
 from aide_compare.base.ending import Fault, Status
@@ -28,11 +28,7 @@ create table changes (
 Values = tuple[bytearray, bytearray, str, int, int, int, str, int, int]
 INSERT = """
 insert into changes (path_key, site, kind, owners, rank, party, asked, line_at, line_size)
-values """
-PLACES = "(?, ?, ?, ?, ?, ?, ?, ?, ?)"
-WIDTH = 9
-# So many rows are inserted at once.
-STEP = 32
+values (?, ?, ?, ?, ?, ?, ?, ?, ?)"""
 # What people read first. Of one severity that is what is root's, then what is a service's; what the
 # fewest of many hosts have; what the first line of the table of severities means, such as set-ID
 # bits; what was removed or changed before what was added; and then the path has the last word.
@@ -69,9 +65,7 @@ class Table(Rows):
 
     def add(self, changes: Iterable[Values]) -> None:
         """Takes changes in the order of paths; a Fault if they are too many."""
-        values = chain.from_iterable(islice(changes, MAX_ROWS + 1))
-        while some := list(islice(values, STEP * WIDTH)):
-            self.do(INSERT + ", ".join([PLACES] * (len(some) // WIDTH)), *some)
+        self.do_all(INSERT, islice(changes, MAX_ROWS + 1))
         if len(self) > MAX_ROWS:
             text = f"there are more than {MAX_ROWS} changes that are not silent"
             raise Fault(Status.DEVICE, text)
