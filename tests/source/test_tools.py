@@ -46,8 +46,8 @@ def tree() -> dict[str, tuple[int, int]]:
 def command_of(name: str) -> list[str]:
     """How a tool is run: as a module below tools/ or tests/, otherwise as a file."""
     if name.startswith(("tools/", "tests/")):
-        return [sys.executable, "-m", name[: -len(".py")].replace("/", ".")]
-    return [sys.executable, os.path.join(TOP, name)]
+        return [sys.executable, "-S", "-m", name[: -len(".py")].replace("/", ".")]
+    return [sys.executable, "-S", os.path.join(TOP, name)]
 
 
 def answer_of(name: str, option: str) -> Answer:

@@ -44,7 +44,7 @@ def modules(package: str = "tests") -> list[str]:
 
 def run(module: str, environment: dict[str, str]) -> tuple[str, int, str]:
     """Runs one module: its name, its status and what it printed."""
-    words = [sys.executable, "-W", "ignore", "-m", "unittest", "-v", module]
+    words = [sys.executable, "-S", "-W", "ignore", "-m", "unittest", "-v", module]
     done = subprocess.run(
         words,
         cwd=TOP,
