@@ -1,12 +1,16 @@
-"""aide-compare accept: digests, what is told, refusals, owners and modes, two at once."""
+"""aide-compare accept: by a digest, by an answer on a terminal, and partly: a database of which a
+part stays open."""
 from __future__ import annotations
 
 import gzip
 import os
+import random
+import re
 import shutil
+import time
 from collections.abc import Callable
 
-from .accepting import DIGEST, DONE, FILES, OLDER, TOOL, AcceptingTest, contents, fresh
+from .accepting import AcceptingTest, BASE, DIGEST, DONE, FILES, OLDER, TOOL, contents, fresh
 from .sandbox import AS_NOBODY, END, HEAD, NEW, NOBODY, OLD, sha256
 
 
@@ -112,3 +116,188 @@ class AcceptTest(AcceptingTest):
             run.communicate()
         self.assertEqual([run.returncode for run in runs], [0] * 5)
         self.assertEqual(contents(self), DONE)
+
+
+PROMPT = b"? [y/N] "
+
+
+class AcceptAskedTest(AcceptingTest):
+    def asked(self, answer: bytes, words: tuple[str, ...] = FILES) -> tuple[int, bytes]:
+        """The status and the text of a command whose question, if it asks one, gets an answer."""
+        return self.terminal(TOOL, *words).answered(PROMPT, answer)
+
+    def test_yes(self) -> None:
+        """What differs is shown, then the digest, then the question."""
+        for answer in (b"y\n", b"yes\n", b" Y \n"):
+            fresh(self)
+            status, text = self.asked(answer)
+            self.assertEqual((status, contents(self)[:2]), (0, (NEW, OLD)), (answer, text))
+            place = text.find(b"SHA-256 %s\nMake it" % DIGEST.encode())
+            changes = text.find(b"  changed  /c: ")
+            self.assertTrue(0 < changes < place < text.find(PROMPT), text)
+
+    def test_no(self) -> None:
+        before = contents(self)
+        for answer in (b"\n", b"n\n", b"no\n", b"yesterday\n", b"y y\n", b"\x04"):
+            status, text = self.asked(answer)
+            self.assertEqual((status, contents(self)), (24, before), (answer, text))
+            self.assertIn(b"nothing is accepted", text, answer)
+
+    def test_typed_ahead(self) -> None:
+        """What was typed before the question was there is no answer."""
+        terminal = self.terminal(TOOL, *FILES)
+        terminal.type(b"y\n" * 5)
+        terminal.read(PROMPT)
+        time.sleep(0.5)
+        terminal.type(b"n\n")
+        status, text = terminal.end()
+        self.assertEqual((status, contents(self)[0]), (24, OLD), text)
+
+    def test_exchanged(self) -> None:
+        """Another database that came after the question was asked is not accepted."""
+        terminal = self.terminal(TOOL, *FILES)
+        terminal.read(PROMPT)
+        self.write("base/aide.db.new", OLDER, 0o600)
+        terminal.type(b"y\n")
+        status, text = terminal.end()
+        self.assertEqual((status, contents(self)[0]), (24, OLD), text)
+        self.assertIn(b"is not the database that was reported", text)
+
+    def test_configuration(self) -> None:
+        """Without names they are those of the defaults."""
+        self.write("etc/defaults", f"--databases {self.path(FILES[1])} {self.path(FILES[0])}\n")
+        status, text = self.asked(b"y\n", ())
+        self.assertEqual((status, contents(self)[0]), (0, NEW), text)
+
+    def test_refused(self) -> None:
+        """Without a terminal on both sides nobody is asked; and if nothing was compared, there is
+        nothing to accept."""
+        self.refused(15, b"give --sha256 DIGEST", TOOL, *FILES, text=b"y\n")
+        self.refused(15, b"unrecognized arguments: --yes", TOOL, "--yes", *FILES)
+        status, text = self.asked(b"y\n", ("-q", *FILES))
+        self.assertEqual((status, PROMPT in text), (15, False), text)
+        for new in (HEAD + b"/a\n" + END, b""):
+            self.write("base/aide.db.new", new, 0o600)
+            status, text = self.asked(b"y\n")
+            self.assertEqual((status, PROMPT in text, contents(self)[0]), (24, False, OLD), text)
+
+    def test_owner(self) -> None:
+        """In the directory of another user the comparison has his rights, and so has the work."""
+        self.needs_root()
+        fresh(self, NOBODY)
+        os.chown(self.path("base/aide.db"), NOBODY, NOBODY)
+        status, text = self.asked(b"y\n")
+        self.assertEqual((status, contents(self)[0]), (0, NEW), text)
+        self.assertEqual(os.stat(self.path("base/aide.db")).st_uid, NOBODY)
+
+
+KEPT = HEAD + b"/b 36 40755 4096\n/c 36 100644 10\n/d 36 100644 2\n" + END
+OPEN = ("--keep-open", "/[ab]", "--keep-open", "/c")
+
+
+def database(entries: dict[str, int]) -> bytes:
+    """A database of these paths and sizes, in the order of paths."""
+    ordered = sorted(entries.items(), key=lambda entry: entry[0].split("/"))
+    lines = (b"%s 36 100644 %d\n" % (path.encode(), size) for path, size in ordered)
+    return HEAD + b"".join(lines) + END
+
+
+def random_path(draw: random.Random) -> str:
+    names = [draw.choice(["a", "b", "a-b", "etc", "a.b"]) for _ in range(draw.randint(1, 4))]
+    return "/" + "/".join(names)
+
+
+class AcceptPartlyTest(AcceptingTest):
+    def test_unsound(self) -> None:
+        """What the program refuses becomes no baseline, also with its digest. Nothing moves."""
+        told = b"refused: base/aide.db.new is no sound database\n"
+        for text in (
+            bytes(range(256)) * 20,
+            NEW[:60],
+            NEW[: -len(END)],
+            NEW.replace(b"/a 36", b"/e 36"),
+            b"",
+        ):
+            for packed in (text, gzip.compress(text)):
+                self.write("base/aide.db.new", packed, 0o600)
+                self.refuses(24, told, sha256(text))
+
+    def test_late_failure(self) -> None:
+        """A baseline that is a mount point cannot be exchanged: its former copy is as before."""
+        self.write("source", OLD)
+        with self.mounted("base/aide.db", "--bind", self.path("source")) as is_there:
+            if not is_there:
+                self.skipTest("nothing can be mounted here")
+            self.refuses(18, b"cannot write the baseline base/aide.db: Device")
+
+    def test_open(self) -> None:
+        """An added, a removed and a changed path stay open; all else is accepted. Once more,
+        nothing changes."""
+        entries = b"it contains the new entries, but for what stays open the former ones: "
+        counts = entries + b"added 1, removed 1, changed 1\n"
+        told = [b"now, but for what stays open: ", sha256(KEPT).encode(), counts]
+        for owner in (None, NOBODY):
+            with self.subTest(owner=owner):
+                if owner:
+                    self.needs_root()
+                fresh(self, owner)
+                self.accepts(told, sha256(NEW), *OPEN)
+                self.assertEqual(contents(self), (KEPT, OLD, NEW, 3))
+                # Packed as the new one, without a name or a time.
+                self.assertEqual(self.read(BASE + "aide.db")[:8], b"\x1f\x8b\x08" + bytes(5))
+                words = (*([] if owner is None else ["--user", "nobody"]), *FILES[::-1])
+                brief = b"  added    /a: "
+                self.answered(7, brief, b"3 open of 3 changes", "aide-compare", *words)
+                self.accepts(b"the baseline already, but for what stays open", sha256(NEW), *OPEN)
+                self.assertEqual(contents(self), (KEPT, OLD, NEW, 3), "nothing changes")
+                self.accepts(b"the baseline now: ")
+                self.assertEqual(contents(self), (NEW, KEPT, NEW, 3), "then the rest")
+
+    def test_empty_lines(self) -> None:
+        """Empty lines and comments, which AIDE may write, stay where they are in the new one."""
+        wanted = [text for text in KEPT.split(b"\n") if text.startswith(b"/")]
+        for line in (b"\n", b"  \t \n", b"# a comment\n"):
+            new = NEW.replace(b"/c 36", line + b"/c 36")
+            self.put(OLD.replace(b"/c 36", line + b"/c 36"), new)
+            self.accepts(b"but for what stays open", sha256(new), *OPEN)
+            found = self.read(BASE + "aide.db")  # Plain as the new one.
+            self.assertEqual([text for text in found.split(b"\n") if text[:1] == b"/"], wanted)
+
+    def test_refused(self) -> None:
+        """What would not mean what it says: nothing moves."""
+        columns = re.sub(rb"(\S+) (\S+)\n", rb"\2 \1\n", NEW)
+        cut = b"refused: base/%s is no sound database"
+        for old, new, told in (
+            (OLD, columns, b"has other columns (@@db_spec) than the baseline"),
+            (OLD[: -len(END)], NEW, cut % b"aide.db"),
+            (OLD, NEW[: -len(END)], cut % b"aide.db.new"),
+        ):
+            self.put(old, new)
+            self.refuses(24, told, sha256(new), "--keep-open", "/a")
+        fresh(self)
+        told = b"nothing that differs is kept open by /x\n"
+        self.refuses(24, told, sha256(NEW), "--keep-open", "/a", "--keep-open", "/x")
+        told = b"is not the database that was reported"
+        self.refuses(24, told, sha256(OLD), "--keep-open", "/a")
+        for words in ("--keep-open a", "--keep-open=", "--rules r", "--explained-only"):
+            self.refuses(15, b"aide-compare accept: ", sha256(NEW), *words.split())
+        os.remove(self.path(BASE + "aide.db"))
+        self.refuses(18, b"so nothing stays open", sha256(NEW), "--keep-open", "/a")
+
+    def test_many(self) -> None:
+        """Random databases against maps: the new one, with the old entries that stay open."""
+        draw = random.Random(1)
+        for number in range(12):
+            paths = [random_path(draw) for _ in range(90)]
+            old, new = (
+                {path: draw.randint(1, 3) for path in draw.sample(paths, 60)} for _ in range(2)
+            )
+            pattern, expression = (
+                ("/etc/**", r"/etc/.+") if number % 2 else ("/*/a*", r"/[^/]*/a[^/]*")
+            )
+            is_open = re.compile(expression).fullmatch
+            self.put(database(old), database(new))
+            self.accepts(None, sha256(database(new)), "--keep-open", pattern)
+            wanted = {path: size for path, size in new.items() if not is_open(path)}
+            wanted.update((path, size) for path, size in old.items() if is_open(path))
+            self.assertEqual(contents(self)[0], database(wanted), f"random databases, {number}")

@@ -14,10 +14,10 @@ from .sandbox import AS_NOBODY, PYTHON, CommandTest, after
 OF_QUEUES = "missing queue odd_queue full_queue short".split()
 TESTS = (
     *("test_mail.TextsTest.test_" + name for name in ("texts", "errors")),
-    *("test_mail_queue.QueueTest.test_" + name for name in OF_QUEUES),
+    *("test_mail.QueueTest.test_" + name for name in OF_QUEUES),
     *("test_run.RunTest.test_" + name for name in ("state", "failed_states")),
     "test_accept.AcceptTest.test_digests",
-    "test_accept_partly.AcceptPartlyTest.test_open",
+    "test_accept.AcceptPartlyTest.test_open",
     "test_faults.FaultsTest.test_rooms",
     "test_hands.HandsTest.test_faulty_defaults",
 )

@@ -1,10 +1,9 @@
-"""What the built programs say of databases that are refused. The tables are in refusal_rows.py and
-field_rows.py, and the definitions have to say the same.
-"""
+"""What the built programs say of stored cases, and of databases that are refused. The tables are in
+refusal_rows.py and field_rows.py, and the definitions have to say the same."""
 from __future__ import annotations
 
 from tests.lib.answer import Answer, shown
-from tests.program import field_rows, refusal_rows
+from tests.program import cases, field_rows, refusal_rows
 from tests.program.real_files.folder import FolderTest, database
 
 
@@ -25,3 +24,9 @@ class RefusalsTest(FolderTest):
         for column, field, said in field_rows.REFUSED:
             text = database(column, field)
             self.refused(refusal_rows.SOUND, text, f"new database:3: {said} in column 2")
+
+
+class CasesTest(FolderTest):
+    def test_cases(self) -> None:
+        for label, words, want in cases.in_turn(cases.all_cases()):
+            self.check_words(label, words, want)

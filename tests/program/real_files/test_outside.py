@@ -1,4 +1,4 @@
-"""Limits from outside: memory, sizes of files, pipes, files of 2 GB."""
+"""Limits from outside: memory, stack, sizes of files, pipes, files of 2 GB."""
 from __future__ import annotations
 
 import os
@@ -7,9 +7,11 @@ from collections.abc import Callable
 
 from tests.lib.answer import Answer, difference, run
 from tests.lib.program_test import ProgramTest, slow
+from tests.program import cases
+from tests.program.configurations import limits
 
+from .folder import Folder, NEW
 from .test_fifos import Feeder
-from .folder import NEW, Folder
 
 MEGABYTE, GIGABYTE = 2**20, 2**30
 MINIMAL = b"report_level=minimal\n"
@@ -105,3 +107,24 @@ class OutsideTest(ProgramTest):
                 folder.run(self.program, cwd=gone, preexec_fn=lambda: os.rmdir(gone)),
                 folder.wanted(),
             )
+
+
+STACK = 64 * 1024
+
+
+@slow
+class StackTest(ProgramTest):
+    def test_stack(self) -> None:
+        """Every stored session and configurations beyond a limit, with 64 kB of stack, the
+        arguments among them."""
+        settings = {"preexec_fn": limited(resource.RLIMIT_STACK, STACK), "env": {}}
+        for label, words, want in cases.in_turn(cases.all_cases()):
+            self.check(label + " with little stack", run(self.program, words, **settings), want)
+        for line, said, text in limits.REFUSED:
+            with Folder() as folder:
+                folder.write("conf", text)
+                words = [b"-D", b"-c", folder.at("conf")]
+                want = Answer(b"", b"aide: config:%d: %s\n" % (line, said.encode()), 17)
+                self.check(
+                    "%s with little stack" % said, run(self.program, words, **settings), want
+                )
