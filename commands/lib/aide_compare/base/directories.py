@@ -9,8 +9,7 @@ from __future__ import annotations
 import errno
 import os
 import stat
-from collections.abc import Iterator
-from contextlib import contextmanager, suppress
+from contextlib import suppress
 
 from aide_compare.base.ending import OSErrorAsFault
 from aide_compare.base.escapes import shown
@@ -33,13 +32,17 @@ def failure(number: int, text: str | None = None) -> OSError:
     return OSError(number, text or os.strerror(number))
 
 
-@contextmanager
-def closed_after(descriptor: int) -> Iterator[int]:
+class closed_after:  # Named as those of contextlib, of which a generator takes longer.
     """A descriptor that is closed at the end of a block, which gets it."""
-    try:
-        yield descriptor
-    finally:
-        os.close(descriptor)
+
+    def __init__(self, descriptor: int) -> None:
+        self.descriptor = descriptor
+
+    def __enter__(self) -> int:
+        return self.descriptor
+
+    def __exit__(self, *_: object) -> None:
+        os.close(self.descriptor)
 
 
 class Directory:
