@@ -12,8 +12,8 @@ from aide_compare.base.paths import key_of
 
 # The proved program refuses a longer line.
 MAX_LINE = 1 << 20
-FIELDS = re.compile(rb"[^ \t\n]+")
-FIRST_FIELD = re.compile(rb"[ \t]*([^ \t\n]+)")
+FIELDS = rb"[^ \t\n]+"
+FIRST_FIELD = rb"[ \t]*([^ \t\n]+)"
 PATH_COLUMN = b"name"
 ABSENT = b"0"  # The field of a value that an entry does not have.
 # Bits of the modes of entries.
@@ -33,7 +33,7 @@ class Kind(Enum):
 def fields_in(line: bytes) -> list[bytes]:
     """The fields of a line."""
     if b"\r" in line or b"\v" in line or b"\f" in line:  # Blanks for Python only.
-        return FIELDS.findall(line)
+        return re.findall(FIELDS, line)
     return line.split()
 
 
@@ -43,7 +43,7 @@ class Layout:
     def __init__(self) -> None:
         self.columns: tuple[bytes, ...] = ()
         self.is_over = False
-        self._path = FIRST_FIELD
+        self._path = re.compile(FIRST_FIELD)
 
     def kind_of(self, line: bytes) -> Kind:
         """What the next line is. The lines of a database have to be asked about in their order."""
@@ -72,4 +72,4 @@ class Layout:
         match = self._path.match(entry)
         if match is None or not self.columns:
             return None
-        return key_of(match.group(1))
+        return key_of(match[1])

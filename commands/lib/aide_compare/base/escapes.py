@@ -80,7 +80,7 @@ def encoded(text: str) -> bytes:
 
 def unshown(text: bytes) -> bytes:
     """The bytes that `shown` has escaped in a text."""
-    return re.sub(rb"\\([0-3][0-7]{2})", lambda match: bytes([int(match.group(1), 8)]), text)
+    return re.sub(rb"\\([0-3][0-7]{2})", lambda match: bytes([int(match[1], 8)]), text)
 
 
 def guarded(text: str) -> str:

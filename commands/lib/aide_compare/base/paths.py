@@ -17,11 +17,11 @@ from functools import cache
 from aide_compare.base.ending import Fault, Status
 from aide_compare.base.escapes import shown
 
-_ESCAPE = re.compile(rb"%([0-9A-Fa-f]{2})")
+_ESCAPE = rb"%([0-9A-Fa-f]{2})"
 # What is not itself as a field, where a nought at the beginning has a meaning of its own.
-_UNUSUAL = re.compile(rb"\A0|[^!-~]|%")
+_UNUSUAL = rb"\A0|[^!-~]|%"
 _LOW_BYTE = re.compile(rb"[\x00-\x0a]")
-_RAISED_BYTE = re.compile(rb"\x02(.)", re.S)
+_RAISED_BYTE = rb"(?s)\x02(.)"
 WILD = re.compile(rb"[*?\[\\]")
 SLASH = b"\1"  # In a key.
 # What fnmatch takes otherwise: an escaped byte, and a class, whose first byte may be any, with its
@@ -35,12 +35,14 @@ Test = Callable[[bytes], object]
 
 def unescaped(field: bytes) -> bytes:
     """A path with its escapes decoded; `%` without two hexadecimal digits stands for itself."""
-    return _ESCAPE.sub(lambda match: bytes([int(match.group(1), 16)]), field)
+    if b"%" not in field:
+        return field
+    return re.sub(_ESCAPE, lambda match: bytes([int(match[1], 16)]), field)
 
 
 def escaped(path: bytes) -> bytes:
     """A path, or the target of a link, as a field of a database."""
-    return _UNUSUAL.sub(lambda match: b"%%%02X" % match.group()[0], path)
+    return re.sub(_UNUSUAL, lambda match: b"%%%02X" % match.group()[0], path)
 
 
 def key_of(field: bytes) -> bytes:
@@ -59,13 +61,13 @@ def path_of(key: bytes) -> bytes:
     path = key.replace(SLASH, b"/")
     if b"\2" not in path:
         return path
-    return _RAISED_BYTE.sub(lambda match: bytes([match.group(1)[0] - 32]), path)
+    return re.sub(_RAISED_BYTE, lambda match: bytes([match[1][0] - 32]), path)
 
 
 def _token(match: re.Match[bytes]) -> bytes:
     """A byte or a class as fnmatch has it: there is no backslash for it, and ! negates a class."""
-    literal = match.group(1)
-    inner = match.group(3)
+    literal = match[1]
+    inner = match[3]
     if literal == b"":
         raise ValueError("a backslash is the last byte of a piece")
     if literal:
@@ -74,7 +76,7 @@ def _token(match: re.Match[bytes]) -> bytes:
         raise ValueError("a class has no end")
     if any(first > last for first, last in re.findall(RANGE, inner)):
         raise ValueError("a class is not understood")
-    is_negated = bool(match.group(2))
+    is_negated = bool(match[2])
     return b"[!%s]" % inner if is_negated else b"[%s]" % inner
 
 

@@ -29,7 +29,7 @@ COUNTS = "select standing, level, kind, count(*) from changes group by 1, 2, 3"
 # The titles above the packages that people hear of first.
 TITLES = ("Unsigned packages", "New packages", "Removed packages")
 # The files of a package among dpkg's records.
-NAMING = re.compile(rb".*/([A-Za-z0-9][A-Za-z0-9+.-]*)(?::[a-z0-9-]+)?\.(list|md5sums)")
+NAMING = rb".*/([A-Za-z0-9][A-Za-z0-9+.-]*)(?::[a-z0-9-]+)?\.(list|md5sums)"
 
 
 class Judged:
@@ -144,7 +144,7 @@ def named_packages(changes: Table, has_pair: bool) -> dict[str, list[str]]:
     named: dict[str, dict[str, None]] = {title: {} for title in TITLES}
     unsigned, new, removed = named.values()
     for path, kind in changes.paths("site = ?", key_of_path(b"/var/lib/dpkg/info")):
-        if match := NAMING.fullmatch(path):
+        if match := re.fullmatch(NAMING, path):
             name = shown(match[1], 100)
             if kind == "removed":
                 removed[name] = None

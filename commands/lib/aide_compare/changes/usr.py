@@ -2,12 +2,10 @@
 from __future__ import annotations
 
 import os
-import re
 from collections.abc import Callable
 from contextlib import suppress
 
 MERGED = (b"/bin", b"/lib", b"/lib32", b"/lib64", b"/libx32", b"/sbin")
-IN_MERGED = re.compile(rb"\A(?:%s)(?=/|\Z)" % b"|".join(MERGED))
 
 
 def link_here(path: bytes) -> bytes | None:
@@ -25,6 +23,7 @@ def usr_of(link: Callable[[bytes], bytes | None]) -> Callable[[bytes], bytes]:
     }
 
     def followed(path: bytes) -> bytes:
-        return IN_MERGED.sub(lambda match: merged.get(match.group(), match.group()), path)
+        top = path[: len(path[1:].partition(b"/")[0]) + 1]
+        return merged.get(top, top) + path[len(top) :]
 
     return followed

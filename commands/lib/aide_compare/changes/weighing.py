@@ -17,8 +17,8 @@ UNKNOWN = -1
 FIRST_USER = 1000  # The first number of a user who is no service, as in login.defs(5).
 # The summary strings of a change of a content, or of where a link points: of those with a letter
 # of no difference in all slots but these.
-CONTENT = re.compile(r"[^!][. ]..[. ]{3}....[. ].[. ]{5}")
-TARGET = re.compile(r"[^!]...[. ]{3}....[. ]{7}")
+CONTENT = r"[^!][. ]..[. ]{3}....[. ].[. ]{5}"
+TARGET = r"[^!]...[. ]{3}....[. ]{7}"
 
 
 class Known(NamedTuple):
@@ -82,5 +82,5 @@ def is_content(fields: Fields, is_link: bool) -> bool:
     form = CONTENT
     if is_link:
         form = TARGET
-    is_one = form.fullmatch(fields["summary"]) is not None
+    is_one = re.fullmatch(form, fields["summary"]) is not None
     return is_one and fields["old"].keys() == fields["new"].keys()

@@ -2,8 +2,6 @@
 words of people, and digests by their strength."""
 from __future__ import annotations
 
-import re
-
 # In the order of the details. Behind a label is the form of its values.
 _TABLE = """
 Type=type Lname=link Size=number Bcount=number Perm=perm UID=number GID=number Atime=time
@@ -13,7 +11,7 @@ WHIRLPOOL=digest STRIBOG256=digest STRIBOG512=digest SHA512/256=digest SHA3-256=
 SHA3-512=digest ACL=bytes XAttrs=bytes SELinux=bytes E2FSAttrs=bytes Caps=bytes
 """
 # The form of each label.
-FORMS: dict[str, str] = dict(re.findall("([^ \n]+)=([a-z]+)", _TABLE))
+FORMS = dict(pair.split("=") for pair in _TABLE.split())
 # What people read in place of a label; of those that are not here, the label itself.
 _WORDS = {
     "Type": "type",

@@ -68,7 +68,7 @@ class Form:
 
     def silent(self, path: bytes) -> Standing | None:
         """The standing of a change at this path; None if it is not silent."""
-        if self.account is Standing.TRUSTED and WATCHERS.fullmatch(path):
+        if self.account is Standing.TRUSTED and re.fullmatch(WATCHERS, path):
             return None
         return self.account
 

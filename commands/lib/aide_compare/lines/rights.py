@@ -36,10 +36,10 @@ def is_access_list(field: bytes) -> bool:
     match = re.fullmatch(ACL, field)
     if match is None:
         return True
-    if not match.group(1):
+    if not match[1]:
         return False
     try:
-        text = base64.b64decode(match.group(1), validate=True)
+        text = base64.b64decode(match[1], validate=True)
     except ValueError:
         return True
     return not re.fullmatch(BASE_ACL, text)

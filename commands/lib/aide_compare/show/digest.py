@@ -22,7 +22,7 @@ from aide_compare.lines.change import Change
 MAX_LETTERS = 400  # Of a path in a line of any width.
 MIN_WIDTH = 24  # Of a path, however little room there is.
 # What a line without room leaves out first of a new entry, whose mode says more.
-SIZE = re.compile(" [0-9]+ bytes$")
+SIZE = " [0-9]+ bytes$"
 # What open changes of one severity and one group of owners have in common.
 PART = f"{LISTED} and level = ? and owners = ?"
 IN_ORDER = f"select place, party, site from changes where {PART} order by {ORDER_OF_PART}"
@@ -211,7 +211,7 @@ def entry_line(change: Change, words: str, begin: str, width: int) -> str:
     for word in words.split(", "):
         room = width - len(line) - len(separator)
         if width and len(word) > room:
-            word = SIZE.sub("", word)
+            word = re.sub(SIZE, "", word)
         if not word or (width and len(word) > room):
             break
         line += separator + word
