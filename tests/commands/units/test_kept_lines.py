@@ -28,7 +28,6 @@ from aide_compare.lines.reader import Reader, Refused, reader_over
 
 ROOM = 1 << 20
 SOUND = [fields_of("/srv/a"), fields_of("/srv/b", "removed")]
-# More lines than are looked at before one expression tells those of a form.
 MANY = [fields_of(f"/srv/{number}") for number in range(10, 30)]
 MANY += [fields_of(f"/srv/{number}", "changed", same_as="old") for number in range(30, 50)]
 MANY += [fields_of(f"/srv/{name}") for name in ("\\", "\\n", "x\ty", 'x"', "\x7f", "\xe9")]
@@ -39,6 +38,7 @@ def read_bytes(data: bytes) -> list[str]:
     return [path.decode() for _, path, _, _ in Reader(io.BytesIO(data)).outlines()]
 
 
+@mock.patch.object(reader, "MANY", 1)  # Few lines are read as many are.
 class KeptLinesTest(ModuleTest):
     def test_written(self) -> None:
         """Lines that were cut are not kept, and those of another form are a Fault."""

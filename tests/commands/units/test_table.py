@@ -11,6 +11,7 @@ from tests.commands.units.calls import ModuleTest, PlacesTest
 from tests.commands.units.streams import fields_of, line_of
 
 from aide_compare.base import rows
+from aide_compare.base.directories import closed_after
 from aide_compare.base.files import blocks_of, in_memory
 from aide_compare.base.paths import key_of_path
 from aide_compare.base.words import SEVERITIES
@@ -65,11 +66,8 @@ class TableTest(ModuleTest):
 
 
 def put(path: str, text: bytes, mode: int = 0o600) -> None:
-    descriptor = in_memory(text)
-    try:
+    with closed_after(in_memory(text)) as descriptor:
         outputs.open_output(path, "it", mode)(blocks_of(descriptor))
-    finally:
-        os.close(descriptor)
 
 
 class OutputsTest(PlacesTest):
@@ -98,6 +96,7 @@ class OutputsTest(PlacesTest):
             self.fails(18, "No such file", put, self.path("none/it"), b"x", mode)
         self.assertFalse(os.path.exists(self.path("none")))
 
+    @mock.patch("aide_compare.lines.reader.MANY", 1)
     def test_values(self) -> None:
         """The values of a frequent form are those of the line itself, however odd one is."""
         rows = Rows()

@@ -5,6 +5,7 @@ import json
 import os
 import subprocess
 from typing import Any
+from unittest import mock
 
 from tests.lib.programs import lines_program_of
 
@@ -44,6 +45,7 @@ def order_of(fields: Fields) -> tuple[str, int]:
     return fields["standing"], SEVERITIES.index(fields.get("severity", "high"))
 
 
+@mock.patch("aide_compare.lines.reader.MANY", 1)  # Few lines are read as many are.
 def page_over(objects: list[Fields], limit: int = MAX_PAGE) -> bytes:
     """The page of the objects of lines, with the standings that they say."""
     rows = Rows()
@@ -58,15 +60,7 @@ def page_over(objects: list[Fields], limit: int = MAX_PAGE) -> bytes:
 
 # The rights that a line has of both sides, by their letters in the summary string; and the letters
 # that say no difference.
-RIGHTS = {
-    "p": "Perm",
-    "u": "UID",
-    "g": "GID",
-    "A": "ACL",
-    "X": "XAttrs",
-    "S": "SELinux",
-    "C": "Caps",
-}
+RIGHTS = dict(p="Perm", u="UID", g="GID", A="ACL", X="XAttrs", S="SELinux", C="Caps")
 SLOTS = "YlZbpugamcinHAXSEC"
 NONE = ".: "
 

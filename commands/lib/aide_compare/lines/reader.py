@@ -36,6 +36,9 @@ AFTER_PATH = b',"summary":'
 # The numbers and the digests of a line, by the ends of the names of their attributes.
 VALUE = re.compile(rb':(?:(?<=[et]":)(?<!_out":)[0-9]+|(?<=[0-9BRT]":)"[^"]*"|(?<=[AO]L":)"[^"]*")')
 MAX_FORMS = 1 << 9
+# Of so many lines of one form, one behind another, it is found out what matches them: that takes
+# as long as reading some 200 lines without it.
+MANY = 100
 MAX_LINE = 1 << 11
 NO_MATCH = re.compile(b"(?!)").fullmatch
 # The counts of the end by the accounts of lines.
@@ -62,8 +65,9 @@ class Form:
         self.account = account_of(fields)
         self.left_out = left_out_by(fields)  # The number of the list's line, or 0.
         self.counted = (self.kind, self.account.value if self.account else "")
-        # What matches its lines, with their paths and values, if two stood behind one another.
+        # What matches its lines, with their paths and values, once many stood behind one another.
         self.match = NO_MATCH
+        self.repeats = 0  # How many lines were of the form of the line before.
         self._values: dict[object, Any] = {}
 
     def silent(self, path: bytes) -> Standing | None:
@@ -111,8 +115,10 @@ class Forms:
             form = Form(line)
             if len(self.known) < MAX_FORMS and len(line) <= MAX_LINE:
                 self.known[text] = form
-        if form is self._last and form.match is NO_MATCH:
-            form.learn()
+        if form is self._last:
+            form.repeats += 1
+            if form.repeats == MANY:
+                form.learn()
         self._last = form
         return form
 
