@@ -82,7 +82,7 @@ class PackagesTest(ModuleTest):
             self.gives({}, self.members)
         for name, most in bounds.items():
             with mock.patch.object(packages, name, most - 1):
-                self.assertRaisesRegex(Fault, "have more than", self.members)
+                self.assertRaisesRegex(Fault, "are too large", self.members)
         os.unlink(self.path("dpkg/info/tool.md5sums"))
         self.gives({"tool 2": {b"/usr/bin/tool\n": ""}}, self.members)
 
