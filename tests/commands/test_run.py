@@ -83,6 +83,15 @@ class RunTest(CommandTest):
         report = self.run_tool().output
         self.expect("the databases of the command line win", answer, 7, report, DIFFER)
 
+    def test_no_database_is_an_output(self) -> None:
+        """None is replaced, be it named by the command line or by the defaults."""
+        self.write("etc/defaults", "--databases {0}/old.db {0}/new.db\n".format(self.root))
+        said = b"an output is one of the databases, which would be replaced"
+        for option in ("--json", "--page", "--state"):
+            for words in ("old.db new.db", ""):
+                self.refused(15, said, "aide-compare", option, "./new.db", *words.split())
+        self.assertEqual(self.read("new.db"), NEW)
+
     def test_state(self) -> None:
         before = int(time.time())
         self.call(TOOL, "old.db.gz", "./new.db", "--state", "state")

@@ -31,6 +31,7 @@ from aide_compare.compare.outputs import (
     stream_output,
 )
 from aide_compare.compare.report import report_of
+from aide_compare.compare.state import read_state
 from aide_compare.compare.unpack import Opened
 from aide_compare.compare.work import FAILURES, compare_opened, failed_comparison, open_databases
 from aide_compare.lines.change import Counts
@@ -48,6 +49,8 @@ def keep_failure(path: str | None, error: Exception) -> None:
         return
     with suppress(Fault, OSError):
         become_owner(path)
+        if os.path.lexists(path) and os.lstat(path).st_size:
+            read_state(path)  # What is no state stays, such as a database.
         place = file_output(path, "the state file", ANYBODY_READS)
         place([failed_comparison(error).state().text()])
 

@@ -155,6 +155,9 @@ def work_request(request: CompareRequest) -> ComparisonInput:
     if len(set(request.places)) < len(request.places):
         raise Fault(Status.USAGE, "two outputs have one place, such as standard output")
     old, new = request.databases
+    databases = {os.path.realpath(path) for path in (old, new, *request.trusted)}
+    if databases.intersection(request.places):
+        raise Fault(Status.USAGE, "an output is one of the databases, which would be replaced")
     return ComparisonInput(
         old=old,
         new=new,
