@@ -112,6 +112,14 @@ class SortingTest(CommandTest):
         said_of = [b"/0099\n", b"more paths that appear twice: 100\n"]
         self.expect("200 paths twice", self.sort(text_of(many)), 24, None, said_of)
 
+    def test_terminal(self) -> None:
+        """No database is written to a terminal, which would obey some of its bytes."""
+        write_large(os.path.join(self.root, "a.db"), 1)
+        for words in (["sort", "a.db"], ["archive", "--from", ".", "a.db", "a.db"]):
+            status, text = self.terminal("aide-compare", *words).end()
+            self.assertEqual(status, 15, text)
+            self.assertIn(b": standard output is a terminal: write the database to a file\n", text)
+
     def test_refused(self) -> None:
         whole = text_of([b"1 /%x 1" % number for number in range(5000)])
         packed = gzip.compress(whole)

@@ -5,9 +5,11 @@ expected. The program alone says whether a database is sound, and what a change 
 """
 from __future__ import annotations
 
+import os
 import re
 from enum import Enum
 
+from aide_compare.base.ending import Fault, Status
 from aide_compare.base.paths import key_of
 
 # The proved program refuses a longer line.
@@ -28,6 +30,12 @@ class Kind(Enum):
     BESIDE = "blank, a comment, a line for AIDE, or after the end"
     COLUMNS = "the names of the columns"
     END = "the end"
+
+
+def refuse_terminal() -> None:
+    """A database may have any bytes, and a terminal obeys some of them."""
+    if os.isatty(1):
+        raise Fault(Status.USAGE, "standard output is a terminal: write the database to a file")
 
 
 def fields_in(line: bytes) -> list[bytes]:

@@ -5,7 +5,7 @@ import io
 import os
 from collections.abc import Container, Iterable, Sequence
 
-from aide_compare.base.database import ABSENT
+from aide_compare.base.database import ABSENT, refuse_terminal
 from aide_compare.base.ending import Fault, Status, say
 from aide_compare.base.escapes import shown
 from aide_compare.base.files import PRIVATE, copy_file, in_memory, trusted_text
@@ -214,6 +214,8 @@ def main(arguments: Sequence[str]) -> int:
         give_up(request.user)
     elif request.output:
         become_owner(request.output)
+    else:
+        refuse_terminal()
     limit_memory(MAX_MEMORY)
     limit_time(MAX_SECONDS)
     old = copy_database("old", request.databases[0], request.max_size)

@@ -4,7 +4,7 @@ from __future__ import annotations
 import os
 from collections.abc import Iterator, Sequence
 
-from aide_compare.base.database import MAX_LINE, Kind, Layout
+from aide_compare.base.database import MAX_LINE, Kind, Layout, refuse_terminal
 from aide_compare.base.ending import Fault, Status, say, write_blocks
 from aide_compare.base.escapes import shown
 from aide_compare.base.files import reopened
@@ -112,6 +112,7 @@ def say_repeated(rows: Rows) -> bool:
 
 def sort(request: SortRequest) -> int:
     """Writes the database in path order, and says what was out of order. Returns the status."""
+    refuse_terminal()
     rows = Rows(SCHEMA, 4 * request.max_size + BLOCK)
     path = "/dev/stdin" if request.path == "-" else request.path
     copy = copy_database("given", path, request.max_size)
