@@ -174,7 +174,7 @@ class NotesTest(ModuleTest):
         for name in ("one", "two", "three"):
             os.mkdir(self.path(name))
         store = self.path("one")
-        canary.keep_run(store, canary.Run("www", "a\n" + "\u00e9" * 20000))
+        canary.keep_run(store, canary.Run("", "a\n" + "\u00e9" * 20000))
         found = os.stat(self.path("one/canary"))
         self.assertEqual(stat.S_IMODE(found.st_mode), 0o600)
         self.assertLess(found.st_size, 40000)

@@ -136,6 +136,11 @@ class FleetNightsTest(CommandTest):
         """The pair before the canary was accepted serves for a week, for the same list of what is
         left out, for no other database, and only until something new differs on the canary."""
         fleet = self.late()
+        fleet.list_hosts(LATE[0])
+        fleet.compare(self.path("hosts"))
+        fleet.list_hosts(*NAMES)
+        report = fleet.report().output_text
+        self.assertIn("and was accepted, is silent", report, "after one host without a canary")
         loud = {host: 4 for host in LATE}
         listed = self.path(f"store/hosts/{CANARY}/listed")
         os.utime(listed, (time.time() - 8 * DAY,) * 2)

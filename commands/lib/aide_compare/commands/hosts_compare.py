@@ -49,7 +49,7 @@ def results_beside(
     except (Fault, OSError) as error:
         why = without_name(canary, fault_of(error).text)
         lost = f"canary {canary} was not used, so the others were compared without it"
-        run = Run(canary, f"{lost}: {why}")
+        run = Run("", f"{lost}: {why}")
         tell(guarded(run.note))
     keep_run(request.store, run)
     yield from results([host for host in hosts if host != canary], beside)

@@ -57,7 +57,7 @@ class Pair(NamedTuple):
 class Run(NamedTuple):
     """What a run over many hosts knew of its canary."""
 
-    host: str
+    host: str  # "" if no host was compared beside it.
     note: str  # For the reports that follow.
     sha256: str = ""  # Of its new database, if these have to list what differs in it.
 
@@ -134,7 +134,7 @@ def keep_run(store: str, run: Run | None) -> None:
     path = f"{store}/{RUN}"
     if run is None:
         known = run_in(store)
-        if known and not known.sha256:
+        if known and not known.host:
             os.unlink(path)
         return
     text = json.dumps(run._replace(note=guarded(run.note)[:MAX_NOTE]))
@@ -172,7 +172,7 @@ def notes_of(store: str, hosts: Sequence[Host]) -> tuple[list[str], bool]:
     except Fault as fault:
         run = Run("", fault.text)
     is_beside = any(host.state and host.state.trusted_new for host in hosts)
-    if run is None or (run.sha256 and not is_beside):
+    if run is None or (run.host and not is_beside):
         return [], False
     if is_in_report(run, hosts):
         return [run.note], False
