@@ -14,8 +14,7 @@ from aide_compare.base.escapes import encoded, guarded
 
 
 class Status(IntEnum):
-    """The statuses of a command itself. 0 to 7 also are those of a comparison; a failure never has
-    one of these."""
+    """The statuses of a command itself. 0 to 7 also are those of a comparison."""
 
     OK = 0
     USAGE = 15

@@ -148,5 +148,5 @@ def copy_opened(opened: Opened, limit: int) -> Copy:
 
 
 def copy_database(side: str, path: str, limit: int) -> Copy:
-    """A private copy of the database at a path; `side` is "old" or "new"."""
+    """A private copy of the database at a path, which messages name by `side`."""
     return copy_opened(open_database(side, path), limit)

@@ -1,1 +1,1 @@
-"""A report read back as lines of JSON, and values as texts for people."""
+"""The lines of aide_lines as values, and values as texts for people."""
