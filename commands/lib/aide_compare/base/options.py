@@ -1,7 +1,7 @@
-"""The table of options. An option is one row, whatever commands have it: rows that several commands
-have, or that may stand in the administrator's file of defaults, are here, all others in the module
-of their command. What a command line asks for is a class whose fields are rows, of which
-base/parser.py makes the parser, the help and the completions.
+"""The table of options. But for --format and --max-age an option is one row, whatever commands have
+it: rows that several commands have, or that may stand in the administrator's file of defaults, are
+here, all others in the module of their command. What a command line asks for is a class whose
+fields are rows, of which base/parser.py makes the parser, the help and the completions.
 """
 from __future__ import annotations
 
@@ -68,7 +68,7 @@ def field(row: Option | Operand, **changes: Any) -> Any:
 
 
 def option(name: str, help: str, metavar: str = "", **more: Any) -> Any:
-    """A field whose option no other command has."""
+    """A field with an option that no other class has."""
     return Option(name, help, metavar, **more)
 
 

@@ -208,7 +208,7 @@ def administrators_file(name: str) -> str | None:
 
 def defaults_for(options: Iterable[Option], words: Sequence[str]) -> Defaults:
     """What the lines of the defaults give these options; nothing if the words of the command line
-    turn the defaults off."""
+    need no defaults."""
     rows = {option.attribute: option for option in options}
     before = set(words[: end_of_options(words)])
     if before & {NO_DEFAULTS.name, "--help", "-h", "--version"}:

@@ -153,7 +153,7 @@ def take_packages(
     upgrades: Upgrades, catalog: Catalog, sums: Entries, came: Container[str]
 ) -> None:
     """Takes the packages that have these digests now. Each that is not applied is named, those that
-    are not signed first, and then each new one."""
+    are not signed first, and each new one."""
     say_each("not applied, no signed index has it", sums.keys() - catalog.newest.keys())
     for own, candidates in sorted(catalog.newest.items()):
         if own not in sums:

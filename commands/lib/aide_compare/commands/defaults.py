@@ -67,7 +67,8 @@ def comparison_defaults(
 def exclusions_of(
     paths: Sequence[str], patterns: Sequence[str], reads_defaults: bool = True
 ) -> Exclusions | None:
-    """The list of what is left out: that of the options, or that of the administrator."""
+    """The list of what is left out: the files of the options, or else that of the administrator,
+    and the patterns."""
     if not paths and reads_defaults:
         usual = administrators_file("without")
         if usual:

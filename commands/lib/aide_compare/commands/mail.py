@@ -118,7 +118,7 @@ def message_of(
     judged: Judged | None,
 ) -> Iterator[bytes]:
     """The mail of a comparison; nothing if it is no alarm. A column that is not compared is one,
-    unless the last run has not compared it either."""
+    unless the last run has not compared it either, or no state is kept."""
     state = comparison.state()
     if comparison.status == Status.USAGE:  # Who has typed it sees it at once.
         write_all(2, encoded(told_of(comparison)))
@@ -228,7 +228,7 @@ def compared(request: MailRequest) -> tuple[State, bytes, list[str]]:
 
 
 def columns_before(request: MailRequest) -> Sequence[str] | None:
-    """The columns that the last run has not compared; None if no state says it."""
+    """The columns that the last run is known not to have compared; None if no state is asked."""
     if request.fault or not request.state:
         return None
     with suppress(Fault):

@@ -131,15 +131,16 @@ def column_notes(skipped: Mapping[str, list[str]]) -> Iterator[str]:
 
 
 def equal_notes(copies: Mapping[str, Copy]) -> Iterator[str]:
-    """A line if both databases are the same bytes. AIDE dates each that it writes."""
+    """A line if both databases are the same bytes."""
     old, new = copies["old"], copies["new"]
     if old.size == new.size and old.sha256 == new.sha256:
         yield "both databases are equal, byte for byte: has AIDE written a new one?"
 
 
 def order_notes(copies: Mapping[str, Copy]) -> Iterator[str]:
-    """A line if AIDE wrote the new database before the old one, as it has dated both. The times of
-    the files say nothing: accepting a database, or copying it, gives it another one."""
+    """A line if AIDE wrote the new database before the old one, as it has dated both in one zone.
+    The times of the files say nothing: accepting a database, or copying it, gives it another
+    one."""
     old, new = (re.search(DATED, os.pread(copies[side].fd, 1000, 0)) for side in ("old", "new"))
     if old and new and old.group(2) == new.group(2) and new.group(1) < old.group(1):
         times = f"{new.group(1).decode()}, and {old.group(1).decode()}"

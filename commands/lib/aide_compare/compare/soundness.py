@@ -22,8 +22,8 @@ def read_by_program(old: Copy, new: Copy) -> Comparison:
 
 
 def refuse_unsound(copy: Copy, former: Copy | None = None) -> None:
-    """A Fault of status 24 if the program does not read an unpacked database to its end, or the
-    former one beside it. One database is read as both."""
+    """A Fault if the program does not read an unpacked database to its end, or the former one
+    beside it. One database is read as both."""
     comparison = read_by_program(former or copy, copy)
     if comparison.fault:
         raise comparison.fault

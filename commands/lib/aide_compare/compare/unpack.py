@@ -85,7 +85,8 @@ def open_database(side: str, path: str) -> Opened:
 
 
 def _raw_blocks(opened: Opened, limit: int) -> Iterator[bytes]:
-    """The bytes of an open database as they are, never many more than are allowed unpacked."""
+    """The bytes of an open database as they are, at most some twice as many as are allowed
+    unpacked."""
     count = 0
     while True:
         with OSErrorAsFault(f"cannot read {opened.words}"):

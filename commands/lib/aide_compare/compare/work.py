@@ -29,8 +29,8 @@ FAILURES = (Fault, MemoryError, OSError)
 
 
 def open_databases(comparison: Comparison) -> Sequence[Opened]:
-    """The databases, opened, unless there are copies already; a Refusal or a Fault if they cannot
-    be compared. The comparison itself may be done with the rights of another user."""
+    """The databases, opened, unless there are copies already; a Fault if they cannot be compared.
+    The comparison itself may be done with the rights of another user."""
     request = comparison.request
     config = configuration_in(request.configuration)
     comparison.texts = ConfigurationTexts(config, os.fsencode(request.after))
@@ -137,8 +137,8 @@ def ignored_notes(settings: Settings | None) -> Iterator[str]:
 
 
 def refuse_one_file(opened: Sequence[Opened]) -> None:
-    """Refuses one file, by whatever names, as the new database and as another one: nothing would
-    ever be reported."""
+    """Refuses one file, by whatever names, as the new database and as the old or the trusted new
+    one: nothing would ever be reported."""
     old, new, *trusted = opened
     for other in (old, *trusted[1:]):
         if os.path.sameopenfile(new.fd, other.fd):

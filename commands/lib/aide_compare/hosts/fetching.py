@@ -79,7 +79,7 @@ def cause_of(errors: bytes, status: int) -> str:
 
 
 def fetch(directory: HostDirectory, jobs: int, check: Callable[[int], None] | None = None) -> None:
-    """Fetches the database. It has no name before `check`, which may refuse it.
+    """Fetches the database. It gets its name after `check`, which may refuse it.
 
     The same bytes again leave the file's time as it is: it says since when the host has sent them.
     """

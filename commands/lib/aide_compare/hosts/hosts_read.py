@@ -119,7 +119,7 @@ def read_host(
 
 
 def directory_of(name: str, store: str, seconds: int) -> HostDirectory:
-    """The directory of a host that was compared once. Nothing is made for any other."""
+    """The directory of a host that has one. Nothing is made for any other."""
     if not os.path.isdir(store):
         raise Fault(Status.DEVICE, f"there is no directory {shown(store)}")
     if is_missing(f"{store}/hosts/{check_name(name)}"):

@@ -58,8 +58,8 @@ def bytes_of(fields: Fields, key: str) -> bytes:
 
 
 def values_of(fields: Fields, side: str) -> Values:
-    """The exact values of a side: numbers, texts, and bytes where these are not UTF-8; a ValueError
-    or AttributeError if there is any other."""
+    """The exact values of a side: numbers, texts, and bytes where these are not UTF-8; a
+    ValueError, TypeError or AttributeError if there is any other."""
     values: Values = {}
     for name, value in fields.get(side, {}).items():
         if type(value) not in VALUE_TYPES:

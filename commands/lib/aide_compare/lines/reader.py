@@ -240,7 +240,7 @@ class Reader:
         return counted
 
     def _read_end(self, fields: Fields) -> None:
-        """Takes the last line, of which all counts are those of the lines before it."""
+        """Takes the last line, whose counts of changes are those of the lines before it."""
         try:
             counts = end_of(fields)
             counted = self.counted()

@@ -1,4 +1,4 @@
-"""Lines of at most 80 columns: texts and commands."""
+"""Lines of at most 80 columns, but for a long word of a command: texts and commands."""
 from __future__ import annotations
 
 import shlex

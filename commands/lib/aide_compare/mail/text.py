@@ -1,4 +1,4 @@
-"""The text of a mail: at most 80 lines of 80 columns, to be read in one go.
+"""The text of a mail: at most 80 lines of 80 columns, but for a long word of a command.
 
 It is what people read first of a comparison, with less room, and then two commands.
 """

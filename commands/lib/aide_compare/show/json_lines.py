@@ -56,8 +56,8 @@ def line_of(fields: Fields) -> bytes:
 
 
 def marked_line(line: bytes, marks: Marks) -> bytes:
-    """A line of aide_lines with further members. Its own bytes stay, but no letter that a terminal
-    could write in another direction."""
+    """A line of aide_lines with further members. Its own bytes stay if they are ASCII: a terminal
+    could write other letters in another direction."""
     if not line.isascii():
         line = line_of(json.loads(line))
     return line[: -len(b"}\n")] + marks.members() + b"\n"

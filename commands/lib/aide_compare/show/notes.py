@@ -53,8 +53,8 @@ def no_difference(comparison: Comparison) -> bytes:
 
 def told_of(comparison: Comparison, quiet: bool = False, verbose: bool = False) -> str:
     """The lines beside a report: notes, what the program says, and what is not silent. If nothing
-    was compared, the cause comes first, and notes only with `verbose`; with `quiet` there is
-    nothing else."""
+    was compared, the cause comes first, and notes only with `verbose`. With `quiet` there are no
+    notes, and what the program says only then."""
     hints = _ours([*comparison.hints, *comparison.doubts, *comparison.warnings])
     if comparison.status > 7:
         lines = [*_ours(_faults_of(comparison)), *_errors_of(comparison), *hints]
