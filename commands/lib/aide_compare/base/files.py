@@ -124,8 +124,8 @@ def read_file(path: str | bytes, limit: int, what: str = "") -> bytes:
 
 
 def open_trusted(path: str, what: str) -> int:
-    """The same of a file of the administrator, such as "the rules". Only root and the caller may be
-    able to change it."""
+    """A descriptor of a file of the administrator, such as "the keyring". Only root and the caller
+    may be able to change it."""
     descriptor, is_safe = _opened(path, what + " ")
     if not is_safe or others_can_write(os.fstat(descriptor)):
         os.close(descriptor)

@@ -64,8 +64,8 @@ class State(NamedTuple):
 
     @property
     def age(self) -> int | None:
-        """How many seconds ago the run ended; None if it ended after now, so that one of the clocks
-        is wrong."""
+        """How many seconds ago the run ended; None if it ended minutes after now, so that one of
+        the clocks is wrong."""
         age = int(time.time()) - self.time
         return None if age < -AHEAD else max(age, 0)
 

@@ -147,8 +147,8 @@ def refuse_one_file(opened: Sequence[Opened]) -> None:
 
 
 def check_age(opened: Opened, limit: int) -> None:
-    """Refuses a new database that is older than a limit in seconds or newer than now: AIDE may no
-    longer write one."""
+    """Refuses a new database that is older than a limit in seconds, or minutes newer than now: AIDE
+    may no longer write one."""
     if not limit:
         return
     if opened.written is None:
