@@ -28,7 +28,7 @@ HELP = Help(
     description="""\
 Makes the database that was fetched from HOST its baseline. The former baseline is kept as
 aide.db.previous.""",
-    epilog="Status: 0 accepted; 24 refused: it is another database; 15, 18 or 22 as others.",
+    epilog="Status: 0 accepted; 15, 18, 22 or 24 not, as by aide-compare accept.",
 )
 
 

@@ -27,8 +27,8 @@ HOST. Then it shows the SHA-256 of the database, and asks. After yes the databas
 and HOST is in the file of hosts. With a SHA-256 nothing is asked.""",
     epilog="""\
 Status, the highest of all hosts: 0 HOST is watched; 15 bad arguments, or no terminal;
-18 HOST was not fetched or not added; 24 the answer was no, it is another database, there is a
-baseline of HOST already, or it sent no sound database.""",
+18 HOST was not fetched or not added, or its gzip is damaged; 24 the answer was no, it is another
+database, there is a baseline of HOST already, or it sent no sound database.""",
 )
 
 
