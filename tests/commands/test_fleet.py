@@ -34,6 +34,7 @@ case $1 in
     unknown) printf 'Host key verification failed.\\r\\n' >&2; exit 255 ;;
     changed) printf 'REMOTE HOST IDENTIFICATION HAS CHANGED!\\n' >&2
         printf 'Host key verification failed.\\n' >&2; exit 255 ;;
+    asking) read -r answer < /dev/tty; exit 1 ;;
     denied) echo "root@denied: Permission denied (publickey)." >&2; exit 255 ;;
     coloured) printf 'a\\033[31mb\\302\\233c\\n' >&2; exit 1 ;;
     killer) kill -9 $PPID; exit 1 ;;

@@ -208,6 +208,8 @@ class HostsAddTest(CommandTest):
             self.fleet.put(host, data, None)
         self.refuses(18, "is the key of this user in its authorized_keys?", "denied")
         self.refuses(18, "sent nothing", "empty")
+        # A jump host with an unknown key: its ssh asks, whatever the options of the first one.
+        self.refuses(18, "cannot open /dev/tty", "asking")
         self.refuses(24, "no sound database", "other")
         for name in ("-x", "x\ny", "$(x)", "a#b"):
             self.refuses(15, "", name, "--")

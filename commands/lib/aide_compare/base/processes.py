@@ -132,9 +132,9 @@ def _become_program(
 def _become_bounded(
     words: Sequence[str | bytes], descriptors: Mapping[int, int], environment: Mapping[str, str]
 ) -> NoReturn:
-    """The same in a group of its own. It writes no larger file than MAX_FILE and leaves no core
-    behind."""
-    os.setpgid(0, 0)
+    """The same in a session of its own: the terminal, if there is one, cannot stop it. It writes no
+    larger file than MAX_FILE and leaves no core behind."""
+    os.setsid()
     bound_of(resource.RLIMIT_FSIZE, MAX_FILE)
     bound_of(resource.RLIMIT_CORE, 0)
     _become_program(words, descriptors, environment)
