@@ -7,7 +7,7 @@ import os
 import time
 from typing import Any
 
-from tests.commands.viewers.pages import data_in, heads_in
+from tests.commands.viewers.pages import heads_in
 from tests.lib.scratch import read
 
 from .mail import COUNTS, MailTest, SUBJECT, TOOL, body, call, check_size, logging
@@ -126,22 +126,22 @@ class TextsTest(MailTest):
         # A reader shows the text, and offers the page: of alternatives it would show the page.
         self.assertEqual(message.get_content_type(), "multipart/mixed")
         parts: list[Any] = list(message.get_payload())
-        found = [
-            (each.get_content_type(), each.get_content_disposition(), each.get_filename())
-            for each in parts
-        ]
-        page = ("text/html", "attachment", "changes.html")
-        self.assertEqual(found, [("text/plain", None, None), page])
+        found = [(each.get_content_type(), each["Content-Disposition"]) for each in parts]
+        page = ("text/html", 'attachment; filename="changes.html"')
+        self.assertEqual(found, [("text/plain", None), page])
         self.assertIn(b"File changes on ", body(parts[1]), "a page with the host")
         self.assertIn(b"<pre>4 open of 4 changes", body(parts[1]), "for readers without scripts")
         self.assertEqual(len(heads_in(body(parts[1]))), 4)
+        self.write("many.db", many(b"/etc/cron.d/%05d" + b'"' * 380, 600))
+        message = self.mail("--attach-page", "old.db", "many.db", status=3)
+        assert message
+        self.assertLessEqual(len(body(message.get_payload()[1])), 1 << 19, "quotes are escaped")
         self.set_names("commands.mail", MAX_PAGE=9000)
         message = self.mail("--attach-page", "old.db", "new.db")
         assert message is not None
-        data = data_in(body(message.get_payload()[1]))
-        self.assertEqual(data["heading"]["remarks"][0].split(" changes")[0], "0 of 4")
-        failing = "def heading_of(*words):\n    raise KeyError('an odd report')\n"
-        self.after_import("show.page", "heading_of\n" + failing)
+        self.assertIn(b'"remarks":["0 of 4 changes', body(message.get_payload()[1]))
+        failing = "heading_of\ndef heading_of(*words): raise KeyError('an odd report')\n"
+        self.after_import("show.page", failing)
         text = body(self.mail("--attach-page", "old.db", "new.db"))
         said = "there is no page: a fault of this command: KeyError: 'an odd report'"
         self.assertTrue(words_of(text).endswith(said), text)

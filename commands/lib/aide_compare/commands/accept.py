@@ -189,8 +189,7 @@ class AcceptOptions(Asked):
         if len(self.files) not in (0, 2):
             raise HELP.fault("name NEW and BASELINE, or none")
         if not self.digest and (self.is_quiet or not can_ask()):
-            why = "give --sha256 DIGEST, or run this on a terminal to be asked"
-            raise HELP.fault(why)
+            raise HELP.fault("give --sha256 DIGEST, or run this on a terminal to be asked")
 
 
 def title_line(request: AcceptRequest, accepted: Accepted) -> str:

@@ -198,8 +198,7 @@ def upgrades_of(old_copy: Copy, new_copy: Copy, request: ArchiveRequest) -> Upgr
 def request_of(arguments: Sequence[str]) -> ArchiveRequest:
     request = read(ArchiveRequest, arguments, HELP)
     if len(request.databases) not in (0, 2) or not request.directories:
-        why = "name --from, and both databases, OLD and NEW, or none"
-        raise HELP.fault(why)
+        raise HELP.fault("name --from, and both databases, OLD and NEW, or none")
     databases = request.databases or machines_databases(arguments)
     output = request.output
     if output and os.path.realpath(output) in [os.path.realpath(path) for path in databases]:

@@ -132,8 +132,7 @@ def checked(given: Given) -> CompareRequest:
     if len(databases) == 1:
         raise HELP.fault("name both databases, OLD and NEW, or none")
     if len(databases) > 2:
-        text = f"more than two databases: {shown(databases[-1], 200)}"
-        raise HELP.fault(text)
+        raise HELP.fault(f"more than two databases: {shown(databases[-1], 200)}")
     if request.configuration and not databases:
         raise HELP.fault("--config names no databases: name OLD and NEW")
     return request

@@ -219,8 +219,7 @@ def request_of(arguments: Sequence[str]) -> StatusRequest:
     request = read(StatusRequest, arguments, HELP, defaults)
     is_conditional = request.is_quiet or request.max_age != RESULT_AGE.default
     if is_conditional and request.format not in ("text", "nagios"):
-        text = "only --format text and --format nagios have --quiet and --max-age"
-        raise HELP.fault(text)
+        raise HELP.fault("only --format text and --format nagios have --quiet and --max-age")
     if request.output != STDOUT and request.format != "prometheus":
         raise HELP.fault("only --format prometheus has an OUTPUT")
     return request.but(is_daily=request.state == defaults.get(STATE.attribute, DAILY))

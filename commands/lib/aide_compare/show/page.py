@@ -13,7 +13,7 @@ from html import escape
 from itertools import chain
 from typing import TYPE_CHECKING
 
-from aide_compare.base.escapes import guarded, shown
+from aide_compare.base.escapes import encoded, guarded, shown
 from aide_compare.base.files import private_file
 from aide_compare.base.words import KINDS, SEVERITIES, SIDES, minute_of
 from aide_compare.lines.attributes import CONTENT, FORMS, STRENGTH, word_of
@@ -102,7 +102,7 @@ def page(
         style=style,
         script=script,
         policy=policy,
-        digest=escape(digest[:MAX_DIGEST]),
+        digest=encoded(escape(digest))[:MAX_DIGEST].decode("utf-8", "ignore"),
     )
     yield head.encode("utf-8", "backslashreplace")
     yield b'{"rows":['
