@@ -43,8 +43,8 @@ from aide_compare.mail.waiting import troubles
 HELP = Help(
     name="aide-compare setup",
     description="""\
-Makes this machine ready for a comparison each day. Each step is printed before it is done, and
-passed over if it is done already.""",
+Makes this machine ready for a comparison each day. Each step is printed before it is done, and all
+but the test mail are passed over if they are done already.""",
     epilog="""\
 Status: 0 done, or nothing is missing; 18 a step failed, or --check found something missing;
 15 bad arguments.""",
@@ -169,7 +169,7 @@ class Machine:
             text = f"{PATHS.cron_job} compares each day, and so does the timer: remove it"
             raise Fault(Status.DEVICE, text)
         if re.search(COPIES, text_there(PATHS.aides_job)):
-            text = f"{PATHS.aides_job} makes each new database the baseline: write COPYNEWDB=no"
+            text = f"{PATHS.aides_job} makes new databases the baseline: write COPYNEWDB=no"
             raise Fault(Status.DEVICE, text)
 
     def reader(self) -> str:
