@@ -46,8 +46,8 @@ HELP = Help(
 Makes this machine ready for a comparison each day. Each step is printed before it is done, and all
 but the test mail are passed over if they are done already.""",
     epilog="""\
-Status: 0 done, or nothing is missing; 18 a step failed, or --check found something missing;
-15 bad arguments.""",
+Status: 0 done, or nothing is missing; 15 bad arguments, or not root; 17 no two databases are
+named; 18 a step failed, or --check found something missing.""",
 )
 TIMER = "aide-compare.timer"
 EXIM = "Exim puts it into /var/mail/mail if /etc/aliases has no line for root, such as root: YOU"
