@@ -229,16 +229,16 @@ class SetupTest(CommandTest):
         """The databases are where AIDE's configuration has them, until the defaults name them. One
         that names none is refused."""
         aide = "root/etc/aide/aide.conf"
-        lines = "database_in=file:{0}/its.db\ndatabase_out=file:{0}/its.new\n"
-        self.write(aide, lines.format(self.path("root/srv")))
+        made = self.path(DATABASES + "its.db")
+        new = self.path("root/srv/its.new")
+        self.write(aide, f"database_in=file:{made}\ndatabase_out=file:{new}\n")
         os.makedirs(self.path("root/srv"))
-        made = self.path("root/srv/its.db")
         self.stub("aideinit", f'cp "{self.path("old.db")}" "{made}"')
         self.set_up("elsewhere", ("--no-mail",), 0, made.encode())
-        self.assertEqual(self.owners()["root/srv/its.db"], NOBODY)
+        self.assertEqual(self.owners()[DATABASES + "its.db"], NOBODY)
         self.assertFalse(os.path.lexists(self.path(DATABASES + "aide.db")))
         self.set_up("nothing is missing there", ("--check",), 0, b"nothing is missing")
-        written = [made, self.path("root/srv/its.new"), f"{made}.previous"]
+        written = [made, new, f"{made}.previous"]
         self.assertEqual(self.left_out(), written, "each run and accept write them")
         os.remove(made)
         self.stub("aideinit", "")

@@ -98,8 +98,7 @@ class Machine:
         ]
         if self.is_debian:
             self.needed.append(f"--trusted {self.daily}/signed.db.old {self.daily}/signed.db")
-            # The shipped list names those in AIDE's own directory only.
-            if os.path.dirname(self.baseline) != PATHS.databases:
+            if [self.baseline, self.new] != PATHS.databases:
                 own = (self.baseline, self.new, f"{self.baseline}.previous")
                 self.needed += [f"--exclude {path}" for path in own]
 

@@ -29,7 +29,8 @@ class Paths:
         self.debian_configuration = f"{root}/etc/aide/aide.conf"
         self.other_configuration = f"{root}/etc/aide.conf"
         self.aides_job = f"{root}/etc/default/aide"
-        self.databases = f"{root}/var/lib/aide"
+        # Those that the shipped list names.
+        self.databases = [f"{root}/var/lib/aide/{name}" for name in ("aide.db", "aide.db.new")]
         self.own_directory = f"{root}/var/lib/aide-compare"
         self.defaults = f"{root}/etc/aide-compare/defaults"
         self.without = f"{root}/etc/aide-compare/without"
