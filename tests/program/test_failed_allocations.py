@@ -2,8 +2,8 @@
 
 A library that is loaded before the C library (fail_allocation.c) refuses the n-th malloc or
 realloc, for every n until the session asks for no more: only the n-th, and the n-th with all later
-ones. After each refusal the program has to end with status 22, the one line `aide: out of memory`
-and no output. Without a refusal it answers what the definitions say.
+ones if there are any then. After each refusal the program has to end with status 22, the one line
+`aide: out of memory` and no output. Without a refusal it answers what the definitions say.
 
 Two kinds of calls may be refused without an effect: those of the C library itself, and those of a
 command line that is not understood. There the parser looks for names that are close, which are
@@ -81,15 +81,8 @@ class Refuser(NamedTuple):
     def run(self, words: list[bytes], first: int = 0, last: int = 0) -> Refusal:
         """What the program answers where the calls for memory with these numbers are refused, and
         what was counted."""
-        answer, notes = run_with(
-            self.library,
-            self.program,
-            words,
-            NOTES,
-            "GROWTHS_NOTES",
-            GROWTHS_FIRST=first,
-            GROWTHS_LAST=last,
-        )
+        given = (self.library, self.program, words, NOTES, "GROWTHS_NOTES")
+        answer, notes = run_with(*given, GROWTHS_FIRST=first, GROWTHS_LAST=last)
         return Refusal(answer, *(notes[0] if notes else (0, 0, 0)))
 
 
@@ -113,13 +106,16 @@ def try_session(refuser: Refuser, words: list[bytes]) -> dict[str, list[str]]:
     whole = refuser.wanted(words)
     free = refuser.run(words)
     is_understood = whole.status != USAGE and refuser.unknown not in words
-    found = {"nothing refused": faults_of_whole(free, whole)}
-    for way, last_of in WAYS.items():
-        found[way] = []
-        for first in range(1, free.calls + 1):
+    found: dict[str, list[str]] = {way: [] for way in WAYS}
+    found["nothing refused"] = faults_of_whole(free, whole)
+    for first in range(1, free.calls + 1):
+        for way, last_of in WAYS.items():
             refusal = refuser.run(words, first, last_of(first))
             faults = faults_of(refusal, whole, is_understood)
             found[way] += [f"growth {first}: {fault}" for fault in faults]
+            if refusal.calls == first:
+                break  # It asks for no more memory, so the other way does the same.
+    for way, last_of in WAYS.items():
         later = refuser.run(words, free.calls + 1, last_of(free.calls + 1))
         found[way] += faults_of_whole(later, whole)
     return found

@@ -113,11 +113,7 @@ def file_of(session: Session, index: int) -> tuple[int, int]:
 
 
 def written_before(calls: list[Call], index: int, descriptor: int) -> int:
-    return sum(
-        call.result
-        for call in calls[:index]
-        if call.kind == WRITE and call.descriptor == descriptor
-    )
+    return sum(call.result for call in calls[:index] if call[:2] == (WRITE, descriptor))
 
 
 def config_of(session: Session) -> bytes:
@@ -186,16 +182,8 @@ class Stumbler(NamedTuple):
     def run(
         self, words: list[bytes], kind: int = 0, number: int = 0, way: int = 0
     ) -> tuple[Answer, list[Call]]:
-        answer, notes = run_with(
-            self.library,
-            self.program,
-            words,
-            NOTE,
-            "FAIL_NOTES",
-            FAIL_KIND=kind,
-            FAIL_NUMBER=number,
-            FAIL_WAY=way,
-        )
+        settings = {"FAIL_KIND": kind, "FAIL_NUMBER": number, "FAIL_WAY": way}
+        answer, notes = run_with(self.library, self.program, words, NOTE, "FAIL_NOTES", **settings)
         return answer, [Call(*note) for note in notes]
 
 
