@@ -334,6 +334,7 @@ def settings_of(marks: list[Mark]) -> dict[str, Any]:
     return settings
 
 
+@lru_cache(maxsize=8)  # Both programs are asked over the same texts.
 def read(before: bytes, file: bytes, after: bytes, compares: bool) -> dict[str, Any] | Fault:
     """The settings of a configuration, or its first fault; databases have to be named where it is
     read to compare."""

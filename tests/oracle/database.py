@@ -2,6 +2,7 @@
 values."""
 from __future__ import annotations
 
+from functools import lru_cache
 from itertools import accumulate
 from typing import Any, NamedTuple
 
@@ -128,9 +129,8 @@ def text_faults(parts: Parts) -> list[Fault]:
     return []
 
 
-def line_faults(lines: list[bytes], limit: int) -> list[Fault]:
+def line_faults(lines: list[bytes], parts: Parts, limit: int) -> list[Fault]:
     """The first line with a fault, as a list; of two in a line its length comes first."""
-    parts = parts_of(lines)
     last = parts.end[0][0] if parts.end else len(lines)
     faults = [
         (number, 0, Fault(number, "LineTooLong", None))
@@ -141,6 +141,7 @@ def line_faults(lines: list[bytes], limit: int) -> list[Fault]:
     return [fault for _, _, fault in sorted(faults, key=lambda known: known[:2])[:1]]
 
 
+@lru_cache(maxsize=8)  # Both programs are asked over the same texts.
 def first_fault(
     text: bytes, line_limit: int = LINE_LIMIT, byte_limit: int = BYTE_LIMIT
 ) -> Fault | None:
@@ -148,7 +149,8 @@ def first_fault(
     given, is_cut = text[:byte_limit], len(text) > byte_limit
     unfinished = given[given.rfind(b"\n") + 1 :]
     lines = lines_of(given[: len(given) - len(unfinished)] if is_cut else given)
-    faults, parts = line_faults(lines, line_limit), parts_of(lines)
+    parts = parts_of(lines)
+    faults = line_faults(lines, parts, line_limit)
     if faults:
         return faults[0]
     if is_cut:
@@ -180,6 +182,7 @@ def entry_of(columns: list[bytes], fields: list[bytes]) -> Entry:
     }
 
 
+@lru_cache(maxsize=8)
 def database_of(text: bytes) -> Database:
     """The entries of a sound text and its skipped columns."""
     parts = parts_of(lines_of(text))

@@ -21,6 +21,7 @@ COMPARE, CHECK = [b"-E", b"-c", b"/conf"], [b"-D", b"-c", b"/conf"]
 NAMES = b"database_in=file:/old\ndatabase_new=file:/new\n"
 DIRECTIONS = {"LRE", "RLE", "PDF", "LRO", "RLO", "LRI", "RLI", "FSI", "PDI"}
 MARKS = ["ARABIC LETTER MARK", "LEFT-TO-RIGHT MARK", "RIGHT-TO-LEFT MARK"]
+LETTERS = '"\\' + "".join(map(unicodedata.lookup, MARKS))
 # UTF-8 as RFC 3629 writes it down, by its first bytes.
 CHARACTER = (
     rb"[\x00-\x7f]|[\xc2-\xdf][\x80-\xbf]|\xe0[\xa0-\xbf][\x80-\xbf]"
@@ -41,10 +42,9 @@ def answer_to(
 
 def needs_escape(character: str) -> bool:
     return (
-        character in '"\\'
+        character in LETTERS
         or unicodedata.category(character) in ("Cc", "Zl", "Zp")
         or unicodedata.bidirectional(character) in DIRECTIONS
-        or unicodedata.name(character, "") in MARKS
     )
 
 
@@ -52,16 +52,17 @@ class LineDefinitionsTest(AnswerTest):
     def test_characters(self) -> None:
         """Each character, in its own string: it stands as it is, unless it needs an escape."""
         for plane in range(17):
-            faults = []
-            for code in range(plane << 16, plane + 1 << 16):
-                if 0xD800 <= code < 0xE000:
-                    continue
-                text = string(chr(code))
-                is_plain = text == b'"%s"' % chr(code).encode()
-                if is_plain == needs_escape(chr(code)) or json.loads(text.decode("utf-8")) != chr(
-                    code
-                ):
-                    faults.append("U+%04X is written %r" % (code, text))
+            codes = range(plane << 16, plane + 1 << 16)
+            characters = [chr(code) for code in codes if not 0xD800 <= code < 0xE000]
+            texts = list(map(string, characters))
+            values = json.loads((b"[%s]" % b",".join(texts)).decode())
+            self.assertEqual(len(values), len(characters))
+            faults = [
+                "U+%04X is written %r" % (ord(character), text)
+                for character, text, value in zip(characters, texts, values)
+                if needs_escape(character) == (text == b'"%s"' % character.encode())
+                or value != character
+            ]
             self.add("characters from U+%X0000 on" % plane, faults)
 
     def test_bytes(self) -> None:
@@ -88,34 +89,24 @@ class LineDefinitionsTest(AnswerTest):
                 (other, text, '"old":{},"new":{%s}' % member if member else None),
             ):
                 lines = answer_to(COMPARE, NAMES, old, new).output.split(b"\n")[1:-2]
-                good = (
-                    not lines
-                    if sides is None
-                    else len(lines) == 1 and lines[0].endswith(b"," + sides.encode() + b"}")
-                )
+                ends = [] if sides is None else [f",{sides}}}".encode()]
+                good = len(lines) == len(ends) and all(map(bytes.endswith, lines, ends))
                 self.holds("%s %s" % (column.decode(), shown(field)), good, lines)
         columns = {column for column, _, member in line_rows.MEMBERS if member}
-        self.holds(
-            "each attribute has a row",
-            columns == {attribute.column.encode() for attribute in ATTRIBUTES},
-        )
+        wanted = {attribute.column.encode() for attribute in ATTRIBUTES}
+        self.assertEqual(columns, wanted, "each attribute has a row")
 
     def test_whole(self) -> None:
         """Whole answers, under each layout of a report."""
         skipped = b"aide: %s database: column 5 skipped\n"
         layouts = [b"report_level=%s\n" % level.encode() for level in LEVELS]
-        layouts += [
-            b"%s=%s\n" % (name.encode(), value)
-            for name in BOOL_OPTIONS
-            for value in (b"yes", b"no")
-        ]
+        switches = itertools.product(BOOL_OPTIONS, ("yes", "no"))
+        layouts += [f"{name}={value}\n".encode() for name, value in switches]
         for (options, output, status), layout in itertools.product(line_rows.WHOLE, layouts):
             errors = skipped % b"old" + (b"" if status else skipped % b"new")
             answer = answer_to(COMPARE, NAMES + options + layout, line_rows.OLD, line_rows.NEW)
-            self.check(
-                "%r with %r" % (options, layout), answer, Answer(output.encode(), errors, status)
-            )
+            want = Answer(output.encode(), errors, status)
+            self.check("%r with %r" % (options, layout), answer, want)
         for options, output in line_rows.SETTINGS:
-            self.check(
-                "what %r says" % options, answer_to(CHECK, options), Answer(output.encode(), b"", 0)
-            )
+            want = Answer(output.encode(), b"", 0)
+            self.check("what %r says" % options, answer_to(CHECK, options), want)
