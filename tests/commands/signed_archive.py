@@ -1,7 +1,10 @@
 """Packages that are built here, an archive of them, signed here, and a machine upgraded from it."""
 from __future__ import annotations
 
+import atexit
 import base64
+import copy
+import functools
 import gzip
 import hashlib
 import lzma
@@ -14,6 +17,7 @@ from typing import Callable
 from tests.commands.made_up import MORE_ACL, Night, acl_of
 from tests.commands.sandbox import CommandTest
 from tests.lib.answer import Answer
+from tests.lib.scratch import Scratch
 from tests.oracle.agreement import same_as
 from tests.oracle.database import database_of
 
@@ -44,9 +48,9 @@ def sums_of(version: str) -> bytes:
     return b"sums of " + version.encode()
 
 
-def gpg(sandbox: CommandTest, key: str, *words: str) -> bytes:
+def gpg(scratch: Scratch, key: str, *words: str) -> bytes:
     """What gpg prints, with the home of a key."""
-    command = ["gpg", "--homedir", sandbox.path(key), "--batch", *words]
+    command = ["gpg", "--homedir", scratch.path(key), "--batch", *words]
     return subprocess.run(command, check=True, capture_output=True).stdout
 
 
@@ -70,7 +74,7 @@ class Built:
         self.links[path] = target
         return self
 
-    def build(self, sandbox: CommandTest) -> None:
+    def build(self, sandbox: Scratch) -> None:
         """Makes its file in the mirror, and what an index says of it."""
         tree = sandbox.path("tree")
         shutil.rmtree(tree, ignore_errors=True)
@@ -160,7 +164,7 @@ class Place:
         text += f" {hashlib.sha256(data).hexdigest()} {len(data)} {name}\n"
         self.sandbox.write("release", text.encode())
         words = ["--yes", "--digest-algo", "SHA256", "--output", folder + "/InRelease"]
-        gpg(self.sandbox, key, *words, "--clearsign", self.sandbox.path("release"))
+        gpg(made_once()[0], key, *words, "--clearsign", self.sandbox.path("release"))
 
     def ask(
         self, *words: str, sources: tuple[str, ...] = (SUITE,), keyring: str = "keys.gpg"
@@ -191,12 +195,10 @@ def upgraded(sandbox: CommandTest) -> Place:
     place = Place(sandbox)
     place.listed("tool", "2")
     place.listed("lib:amd64", "2")
-    tool = Built("tool", "2").file(TOOL, TWO, 0o755).file(b"/usr/bin/true", TWO, 0o755)
-    tool.file(b"/usr/bin/plain", TWO, 0o4755).file(ODD, TWO).file(CONFIGURATION, TWO)
-    tool.link(b"/usr/bin/alias", b"tool").link(b"/usr/bin/zero", b"0")
-    place.package(tool.file(b"/usr/share/tool/new/file", TWO))
-    place.package(Built("lib", "2").file(b"/lib/multi/lib.so", TWO))
-    place.package(Built("lib", "1.5").file(b"/lib/multi/lib.so", b"of another version\n"))
+    made, built = made_once()
+    shutil.copytree(made.path("mirror"), sandbox.path("mirror"))
+    sandbox.write("keys.gpg", made.read("keys.gpg"))
+    place.built = [copy.copy(each) for each in built]
     for night in (place.old, place.new):
         content = ONE if night is place.old else TWO
         night.file(TOOL, content, 0o100755).file(b"/usr/bin/true", content, 0o100755)
@@ -215,19 +217,28 @@ def upgraded(sandbox: CommandTest) -> Place:
     return place
 
 
-def make_keys(sandbox: CommandTest) -> None:
-    """Two keys, of which the first is trusted."""
+@functools.lru_cache(maxsize=None)
+def made_once() -> tuple[Scratch, list[Built]]:
+    """Two keys, of which the first is trusted, and the packages, for all tests of this process."""
+    scratch = Scratch()
+    scratch.make()
+    atexit.register(scratch.remove)
     for key in ("gpg", "other"):
-        os.mkdir(sandbox.path(key), 0o700)
+        os.mkdir(scratch.path(key), 0o700)
         words = ("--quick-gen-key", f"{key} <t@example.org>", "ed25519", "sign", "0")
-        gpg(sandbox, key, "--passphrase", "", *words)
-    sandbox.write("keys.gpg", gpg(sandbox, "gpg", "--export"))
-
-
-def stop_agents(sandbox: CommandTest) -> None:
-    for key in ("gpg", "other"):
-        words = ["gpgconf", "--homedir", sandbox.path(key), "--kill", "all"]
-        subprocess.run(words, check=False, capture_output=True)
+        gpg(scratch, key, "--passphrase", "", *words)
+        stop = ["gpgconf", "--homedir", scratch.path(key), "--kill", "all"]
+        atexit.register(subprocess.call, stop, stderr=subprocess.DEVNULL)
+    scratch.write("keys.gpg", gpg(scratch, "gpg", "--export"))
+    tool = Built("tool", "2").file(TOOL, TWO, 0o755).file(b"/usr/bin/true", TWO, 0o755)
+    tool.file(b"/usr/bin/plain", TWO, 0o4755).file(ODD, TWO).file(CONFIGURATION, TWO)
+    tool.link(b"/usr/bin/alias", b"tool").link(b"/usr/bin/zero", b"0")
+    tool.file(b"/usr/share/tool/new/file", TWO)
+    built = [tool, Built("lib", "2").file(b"/lib/multi/lib.so", TWO)]
+    built.append(Built("lib", "1.5").file(b"/lib/multi/lib.so", b"of another version\n"))
+    for each in built:
+        each.build(scratch)
+    return scratch, built
 
 
 def keep_as_apt(sandbox: CommandTest, place: Place) -> None:
@@ -253,6 +264,4 @@ class ArchiveCase(CommandTest):
     def setUp(self) -> None:
         super().setUp()
         self.needs(*PROGRAMS)
-        make_keys(self)
-        self.addCleanup(stop_agents, self)
         self.place = upgraded(self)

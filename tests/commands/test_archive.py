@@ -118,12 +118,12 @@ class ArchiveTest(ArchiveCase):
     def test_sources(self) -> None:
         """Packed indexes, and what apt keeps of indexes and packages, one larger than memory."""
         place = self.place
-        place.built[0].more = 64 << 20
-        place.built[0].build(self)
-        self.set_names("commands.archive", MAX_MEMORY=64 << 20)
         for ending in (".gz", ".xz"):
             place.sign(ending=ending)
             place.expect(place.ask(), "trusted", TOOL)
+        place.built[0].more = 64 << 20
+        place.built[0].build(self)
+        self.set_names("commands.archive", MAX_MEMORY=64 << 20)
         place.sign()
         keep_as_apt(self, place)
         place.expect(self.applied(sources=("lists", "archives")), "trusted", TOOL)
