@@ -11,6 +11,7 @@ import time
 from collections.abc import Callable
 
 from .accepting import AcceptingTest, BASE, DIGEST, DONE, FILES, OLDER, TOOL, contents, fresh
+from .units.calls import misused
 from .sandbox import AS_NOBODY, END, HEAD, NEW, NOBODY, OLD, sha256
 
 
@@ -46,17 +47,14 @@ class AcceptTest(AcceptingTest):
         told = [sha256(OLD).encode(), DIGEST.encode(), b"refused: base/aide.db.new"]
         self.refuses(24, told, sha256(OLD))
         name = b"aide-compare accept: "
-        for digest in (DIGEST[:15], "x" * 64, "", DIGEST + "0", "A" * 42 + "B="):
-            self.refuses(15, name, digest)
-        for status, words in (
-            (15, "--state odd"),
-            (15, "--odd"),
-            (18, "--max-size 20"),
-            (15, "--max-size x"),
-            (15, "--keep kept"),
-            (15, "--trusted old.db new.db"),
-        ):
-            self.refuses(status, name, DIGEST, *words.split())
+        self.refuses(15, name, DIGEST[:15])
+        for digest in ("x" * 64, "", DIGEST + "0", "A" * 42 + "B="):
+            self.assertEqual(misused(self, TOOL, "--sha256", digest, *FILES)[0], 15, digest)
+        self.refuses(18, name, DIGEST, "--max-size", "20")
+        usual = f"--sha256 {DIGEST} {' '.join(FILES)}"
+        for words in ("--state odd", "--odd", "--max-size x", "--keep kept", "--trusted o.db n.db"):
+            found = misused(self, TOOL, *words.split(), *usual.split())
+            self.assertEqual(found[0], 15, (words, found))
         for files in (FILES[:1], (FILES[0], "base/"), (FILES[0], "base/..")):
             self.refused(15, name, TOOL, "--sha256", DIGEST, *files)
         told_of_missing = b"cannot open the new database missing"
@@ -211,16 +209,16 @@ class AcceptPartlyTest(AcceptingTest):
     def test_unsound(self) -> None:
         """What the program refuses becomes no baseline, also with its digest. Nothing moves."""
         told = b"refused: base/aide.db.new is no sound database\n"
-        for text in (
-            bytes(range(256)) * 20,
-            NEW[:60],
-            NEW[: -len(END)],
-            NEW.replace(b"/a 36", b"/e 36"),
-            b"",
+        for text, is_packed in (
+            (bytes(range(256)) * 20, False),
+            (NEW[:60], True),
+            (NEW[: -len(END)], False),
+            (NEW.replace(b"/a 36", b"/e 36"), True),
+            (b"", False),
+            (b"", True),
         ):
-            for packed in (text, gzip.compress(text)):
-                self.write("base/aide.db.new", packed, 0o600)
-                self.refuses(24, told, sha256(text))
+            self.write("base/aide.db.new", gzip.compress(text) if is_packed else text, 0o600)
+            self.refuses(24, told, sha256(text))
 
     def test_late_failure(self) -> None:
         """A baseline that is a mount point cannot be exchanged: its former copy is as before."""
@@ -280,17 +278,18 @@ class AcceptPartlyTest(AcceptingTest):
         told = b"is not the database that was reported"
         self.refuses(24, told, sha256(OLD), "--keep-open", "/a")
         for words in ("--keep-open a", "--keep-open=", "--rules r", "--explained-only"):
-            self.refuses(15, b"aide-compare accept: ", sha256(NEW), *words.split())
+            given = ("--sha256", sha256(NEW), *words.split(), *FILES)
+            self.assertEqual(misused(self, TOOL, *given)[0], 15, words)
         os.remove(self.path(BASE + "aide.db"))
         self.refuses(18, b"so nothing stays open", sha256(NEW), "--keep-open", "/a")
 
     def test_many(self) -> None:
         """Random databases against maps: the new one, with the old entries that stay open."""
         draw = random.Random(1)
-        for number in range(12):
-            paths = [random_path(draw) for _ in range(90)]
+        for number in range(4):
+            paths = [random_path(draw) for _ in range(270)]
             old, new = (
-                {path: draw.randint(1, 3) for path in draw.sample(paths, 60)} for _ in range(2)
+                {path: draw.randint(1, 3) for path in draw.sample(paths, 180)} for _ in range(2)
             )
             pattern, expression = (
                 ("/etc/**", r"/etc/.+") if number % 2 else ("/*/a*", r"/[^/]*/a[^/]*")

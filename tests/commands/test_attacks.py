@@ -110,9 +110,8 @@ class AttacksTest(CommandTest):
     def test_waiting(self) -> None:
         """Nobody writes to a FIFO, and a device never ends: both are refused at once."""
         os.mkfifo(self.path("fifo"))
-        for name in ("fifo", "/dev/zero", "/dev/tty", "/dev/null"):
-            self.refused(18, b"not a regular file", TOOL, name, "new.db", limit=60)
-            self.refused(18, b"not a regular file", TOOL, "old.db", name, limit=60)
+        for names in ("fifo new.db", "old.db fifo", "/dev/zero new.db", "old.db /dev/tty"):
+            self.refused(18, b"not a regular file", TOOL, *names.split(), limit=60)
         self.refused(18, b"it is a FIFO", TOOL, "-c", "fifo", "old.db", "new.db")
         self.refused(18, b"cannot open the old", TOOL, "/dev/fd/4", "new.db")
         for name in ("/dev/stdin", "/dev/fd/0", "/proc/self/fd/0"):

@@ -7,7 +7,7 @@ import stat
 import time
 from typing import Any
 
-from tests.commands.units.calls import ModuleTest
+from tests.commands.units.calls import ModuleTest, misused
 from tests.commands.made_up import Night, time_of
 from tests.commands.sandbox import CommandTest
 from tests.commands.test_hosts_report import Hosts
@@ -113,10 +113,10 @@ class CanaryTest(CommandTest):
 
     def test_no_host(self) -> None:
         """A canary that is not in the list is refused, and what is no name."""
-        hosts = self.fleet()
+        self.fleet()
         for name in ("nobody", "-x", "../www1", "a b", ""):
-            said = hosts.compare(f"--canary={name}", self.path("hosts"))
-            self.assertEqual((said.status, said.output_text), (15, ""), name)
+            words = ("--store", self.path("store"), f"--canary={name}", self.path("hosts"))
+            self.assertEqual(misused(self, "aide-compare hosts compare", *words)[0], 15, name)
 
     def test_changed(self) -> None:
         """Only the very databases that were compared are trusted."""

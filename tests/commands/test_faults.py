@@ -156,7 +156,7 @@ class FaultsTest(CommandTest):
             self.stub("aide_lines", body, "libexec/aide-compare")
             with self.subTest(label):
                 self.refused(18, said, "aide-compare", "-q", "old.db", "new.db", state="state")
-                self.refused(18, said, "aide-compare", "-v", "old.db", "new.db")
+        self.refused(18, said, "aide-compare", "-v", "old.db", "new.db")
         self.stub("aide_lines", 'echo "{}"', "libexec/aide-compare")
         words = ("--state", "state", "-A", "report_force_attrs=p", "old.db", "new.db")
         self.refused(18, other, "aide-compare", *words)

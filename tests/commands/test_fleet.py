@@ -13,6 +13,7 @@ from typing import Any
 from tests.lib.answer import Answer
 from tests.lib.waiting import is_alive, until
 
+from .units.calls import misused
 from .sandbox import AS_NOBODY, CommandTest, END, NEW, OLD, sha256
 
 COMPARE = "aide-compare hosts compare"
@@ -43,8 +44,8 @@ exec cat "ROOT/remote/$1"'''
 
 
 def hostile() -> bytes:
-    """Some kB of gzip, a database of 54 MB, a report of ten times that: links of control bytes."""
-    return gzip.compress(links(b"%01" * 300000))
+    """Some kB of gzip, a database of 18 MB, lines of twice that: links of control bytes."""
+    return gzip.compress(links(b"%01" * 100000))
 
 
 def links(name: bytes) -> bytes:
@@ -123,7 +124,7 @@ class FleetTest(CommandTest):
             self.assertIn(f"{host} {DIFFERS}\n", said.output_text, said)
 
     def test_hostile(self) -> None:
-        """One host sends some kB whose changes have hundreds of MB: its lines are cut."""
+        """One host sends some kB whose changes have many MB: its lines are cut."""
         fleet = self.fleet
         fleet.put("evil", hostile(), links(b"x"))
         hosts = fleet.list_hosts("evil", *PAIR)
@@ -143,7 +144,7 @@ class FleetTest(CommandTest):
 
     def test_bomb(self) -> None:
         """A database has 64 MB at most, without --max-size."""
-        self.fleet.put("bomb", gzip.compress(bytes(80 << 20)))
+        self.fleet.put("bomb", gzip.compress(bytes(80 << 20), 1))
         told = "has more than 67108864 bytes"
         self.fleet.not_compared(told, self.fleet.compare_one("bomb"), "bomb")
 
@@ -217,8 +218,8 @@ class FleetTest(CommandTest):
     def test_wrong(self) -> None:
         """What is no name of a host makes no file."""
         for name in ("..", "a..b", "-x", "a/b", "a b", "x\ny", "é", "a" * 201, "a\n"):
-            said = self.fleet.call("aide-compare hosts accept", "--sha256", "0" * 64, "--", name)
-            self.assertEqual(said.status, 15, (name, said))
+            words = ("--store", self.path("store"), "--sha256", "0" * 64, "--", name)
+            self.assertEqual(misused(self, "aide-compare hosts accept", *words)[0], 15, name)
             self.assertNotIn(name, os.listdir(self.path("store/hosts")))
 
     def test_same_for(self) -> None:

@@ -15,7 +15,7 @@ from tests.lib.answer import Answer
 
 ACCEPT = "aide-compare hosts accept"
 CANARY = "www1"
-NAMES = tuple(f"www{number}" for number in range(1, 9))
+NAMES = tuple(f"www{number}" for number in range(1, 6))
 LATE = ("www4", "www5")
 EVIL = "www3"
 MARK = b"/usr/bin/mark"

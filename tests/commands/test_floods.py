@@ -132,31 +132,31 @@ class FloodsTest(CommandTest):
         self.assertEqual(names[len(roots) :], others, "then those of others")
 
     def test_flooded_mail(self) -> None:
-        """100,000 hostile paths: the mail names each change of root's with severity high, before
+        """20,000 hostile paths: the mail names each change of root's with severity high, before
         all of theirs, in 80 lines."""
         mail.prepare(self)
-        self.write_night(list(hostile_files(100000)))
+        self.write_night(list(hostile_files(20000)))
         text = self.mailed()
         first = text.find(b"/home/")
         for path in ROOTS:
             self.assertTrue(0 < text.find(path + b": ") < first, (path, text))
         self.assertIn(SHELL + b": ", text)
-        self.assertIn(b"100007 open (100006 high) of ", text)
+        self.assertIn(b"20007 open (20006 high) of ", text)
         lines = [line for line in text.split(b"\n") if line.startswith(b"  added    /home/")]
         of_anna = [line for line in lines if re.match(rb"  added    /home/anna/\.ssh/\d", line)]
         self.assertEqual(len(of_anna), 5, "the first few of each folder come first")
-        rest = b"  and %d more, " % (100000 - len(lines))
+        rest = b"  and %d more, " % (20000 - len(lines))
         self.assertIn(rest, text, "what is not listed is counted")
 
     def test_flooded_page(self) -> None:
         """A page that has no room for all leaves out what matters least: each change of root's is
         on it, and the others are counted."""
         name = b"/home/bob/.ssh" + b"/" + b"/".join([b"n" * 250] * 14)
-        self.write_night([entry(b"%s%06d" % (name, number), owner=1001) for number in range(9000)])
+        self.write_night([entry(b"%s%06d" % (name, number), owner=1001) for number in range(6500)])
         answer = self.call("aide-compare page", "night.old", "night.new", limit=TIME_LIMIT)
         self.assertLess(len(answer.output), 20000000)
         data = data_in(answer.output)
-        self.assertRegex(data["heading"]["remarks"][0], r"^[0-9,]+ of 9,\d+ changes are here")
+        self.assertRegex(data["heading"]["remarks"][0], r"^[0-9,]+ of 6,\d+ changes are here")
         names = {head["path"] for head, *_ in data["rows"]}
         self.assertLessEqual({path.decode() for path in ROOTS}, names)
 

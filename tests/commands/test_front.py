@@ -3,8 +3,9 @@ the forms of a status."""
 from __future__ import annotations
 
 import os
-from collections.abc import Callable
+import re
 
+from .units.calls import helped
 from .sandbox import CommandTest, DIFFER, NEW, OLD, sha256
 
 TOOL = "aide-compare"
@@ -12,7 +13,6 @@ SUBCOMMANDS = "compare show json page mail accept archive status sort setup vers
 HOSTS = "add compare accept report".split()
 EVERY = SUBCOMMANDS + ["hosts " + word for word in HOSTS]
 COMMON = [b"\n  -q, --quiet ", b"\n  -v, --verbose ", b"\n  --version "]
-LINES_PROGRAM = b"program of lines: "
 UNKNOWN_BUILD = b"a proved build: not known: "
 # A program in place of the proved one: it tells its arguments, and which signals it ignores.
 TELLS = 'printf "%s\\n" "$@"; grep SigIgn /proc/self/status; exit 5'
@@ -53,10 +53,13 @@ class FrontTest(CommandTest):
             is_short = word in ("compare", "json", "page")
             usage = b"[compare | json | page] " if is_short else word.encode() + b" "
             parts = [b"usage: aide-compare " + usage, *COMMON]
-            given = self.answered(0, parts, b"", TOOL, *word.split(), "--help")
-            self.assertIn(b" [OPTIONS]", given.output.splitlines()[0])
-            self.assertLessEqual(max(map(len, given.output_text.splitlines())), 80, word)
-            self.answered(0, given.output, b"", TOOL, "help", *word.split())
+            printed = helped(*word.split(), "--help")
+            for part in parts:
+                self.assertIn(part, printed)
+            self.assertIn(b" [OPTIONS]", printed.splitlines()[0])
+            self.assertLessEqual(max(map(len, printed.decode().splitlines())), 80, word)
+        for words in (["sort"], ["hosts", "add"]):
+            self.answered(0, helped(*words, "--help"), b"", TOOL, "help", *words)
         for words in (["hosts"], ["hosts", "-h"], ["help", "hosts"]):
             wanted = [b" hosts %s " % word.encode() for word in HOSTS]
             given = self.answered(0, wanted, b"", TOOL, *words)
@@ -118,49 +121,42 @@ class FrontTest(CommandTest):
             answer = self.call(*runs)
             wanted = (5, b"newer\n") if is_newer else (0, b"")
             self.assertEqual((answer.status, answer.output), wanted, name)
-            output = self.call(TOOL, "version").output.decode()
-            answers = [
-                line.partition(": ")[2]
-                for line in output.splitlines()
-                if line.startswith("run on this machine: ")
-            ]
-            self.assertEqual(answers, ["no", "yes"] if is_newer else ["yes", "no"], name)
+            if name in ("all that is needed", "no AVX2"):
+                output = self.call(TOOL, "version").output.decode()
+                answers = re.findall("(?m)^run on this machine: (.*)", output)
+                self.assertEqual(answers, ["no", "yes"] if is_newer else ["yes", "no"], name)
         self.write("cpuinfo", flags)
         os.chmod(program, 0o644)
         self.answered(0, b"", b"", *runs)
 
     def test_version(self) -> None:
         """The programs that are run, and what the record of each says, if it is of this program."""
-        self.check_record(self.program, lambda text: text.partition(LINES_PROGRAM)[0])
-        rest = b"program: "
-        self.check_record(self.lines_program, lambda text: rest + text.partition(LINES_PROGRAM)[2])
-        self.refused(15, b"aide-compare version: ", TOOL, "version", "x")
-        os.remove(self.lines_program)
-        told = b"cannot find " + self.lines_program.encode()
-        self.answered(18, None, told, TOOL, "version")
-
-    def check_record(self, program: str, part: Callable[[bytes], bytes]) -> None:
-        """What the version says of a program by each record; `part` takes this from the output."""
-        digest = sha256(self.read(program))
-        first = b"program: %s\nSHA-256: %s\n" % (program.encode(), digest.encode())
+        programs = {name: sha256(self.read(name)) for name in (self.program, self.lines_program)}
         other = sha256(b"x")
         unknown = UNKNOWN_BUILD + b"there is no record of how it was built\n"
         for record, last in (
             ("", b"kit: not known\n" + unknown),
-            (f"sha256={digest}\nkit=k 1\nproved=yes\n", b"kit: k 1\na proved build: yes\n"),
+            ("sha256={0}\nkit=k 1\nproved=yes\n", b"kit: k 1\na proved build: yes\n"),
             (
                 f"sha256={other}\nkit=k\nproved=yes\n",
                 UNKNOWN_BUILD + b"it is not the program that was installed\n",
             ),
             (
-                f"sha256={digest}\nkit=\033\nproved=\033[2J\n",
+                "sha256={0}\nkit=\033\nproved=\033[2J\n",
                 b"kit: \\033\na proved build: \\033[2J\n",
             ),
         ):
-            if record:
-                self.write(program + ".build", record)
-            for words in ("version", "--version"):
-                text = part(self.answered(0, b"aide-compare ", b"", TOOL, words).output)
-                self.assertIn(first, text, record[:200])
-                self.assertIn(last, text, record[:200])
-        os.remove(program + ".build")
+            for program, digest in programs.items():
+                if record:
+                    self.write(program + ".build", record.format(digest))
+            output = self.answered(0, b"aide-compare ", b"", TOOL, "version").output
+            _, *parts = re.split(rb"(?m)^program(?: of lines)?: ", output)
+            self.assertEqual(len(parts), 2, output)
+            for part, (program, digest) in zip(parts, programs.items()):
+                self.assertTrue(part.startswith(f"{program}\nSHA-256: {digest}\n".encode()), part)
+                self.assertIn(last, part, record)
+        self.answered(0, output, b"", TOOL, "--version")
+        self.refused(15, b"aide-compare version: ", TOOL, "version", "x")
+        os.remove(self.lines_program)
+        told = b"cannot find " + self.lines_program.encode()
+        self.answered(18, None, told, TOOL, "version")

@@ -88,9 +88,8 @@ class HandsTest(CommandTest):
         self.answered(5, page, None, TOOL, *shlex.split(command)[1:])
         self.assertFalse(os.path.exists(self.path("of.state")))
 
-    def refused_defaults(self, name: str, said: bytes) -> None:
-        """A comparison and a check refuse a file of the administrator, which is mailed."""
-        self.refused(18, said, TOOL, *NIGHT)
+    def refused_elsewhere(self, name: str, said: bytes) -> None:
+        """A mail and a check refuse a file of the administrator, which is mailed."""
         answer = mail.call(self, *NIGHT)
         self.assertEqual(answer.status, 18, answer)
         self.assertIn(said, mail.body(mail.sent(self)))
@@ -113,7 +112,10 @@ class HandsTest(CommandTest):
                 if owner:
                     os.chown(self.path("etc/" + name), owner, owner)
                 with self.subTest(name=name, mode=oct(mode), owner=owner, folder=oct(folder)):
-                    self.refused_defaults(name, b"other users can write the " + what)
+                    said = b"other users can write the " + what
+                    self.refused(18, said, TOOL, *NIGHT)
+                    if mode == 0o666:
+                        self.refused_elsewhere(name, said)
                 os.chmod(self.path("etc"), 0o755)
                 os.remove(self.path("etc/" + name))
         os.symlink(self.path("nothing"), self.path("etc/defaults"))

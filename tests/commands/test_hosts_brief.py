@@ -9,6 +9,7 @@ from typing import Any
 
 from tests.lib.answer import Answer
 
+from .units.calls import misused
 from .sandbox import CommandTest, END, NEW, OLD, sha256
 from .test_fleet import COUNTS, DIFFERS, Fleet
 from .test_hosts_report import Hosts, database, four_hosts, line
@@ -47,8 +48,8 @@ class HostsBriefTest(CommandTest):
         hosts = Hosts(self)
         paths = [b"/d%02d/" % number + b"n" * (3 * number) for number in range(90)]
         new = database(*(line(path, b"x", perm=b"104755") for path in paths))
-        texts = {"h%02d" % number: (OLD, new if number % 3 else OLD) for number in range(60)}
-        texts.update({"unknown%02d" % number: (OLD, new) for number in range(20)})
+        texts = {"h%02d" % number: (OLD, new if number % 3 else OLD) for number in range(24)}
+        texts.update({"unknown%02d" % number: (OLD, new) for number in range(5)})
         hosts.compared(texts)
         never = ["never-compared-%s%02d" % ("x" * 150, number) for number in range(20)]
         hosts.list_hosts(*texts, *never)
@@ -146,7 +147,7 @@ class HostsPageTest(CommandTest):
         self.assertIn(self.path("store"), remark.partition("This command prints all: ")[2])
 
 
-HOSTS = 8
+HOSTS = 4
 LOGS = b"/var/log/a 36 100644 %d\n"
 
 
@@ -171,15 +172,15 @@ class HostsQuietTest(CommandTest):
         fleet = self.prepare(idle(5), idle(9))
         said = fleet.compare(self.hosts)
         self.assertEqual(said.status, 4, said)
-        summary = "8 hosts: 8 differ, 0 not compared, 0 without differences\n"
+        summary = "4 hosts: 4 differ, 0 not compared, 0 without differences\n"
         self.assertTrue(said.output_text.endswith(summary), said)
         said = fleet.compare("-q", "--exclude-from", self.path("without"), self.hosts)
         self.assertEqual(said, Answer(b"", b"", 0), "an idle night with what is left out")
         said = fleet.compare("--exclude-from", self.path("without"), self.hosts)
         self.assertEqual(said.output_text.count("; left out: 1 of 1 change\n"), HOSTS, said)
-        summary = "8 hosts: 0 differ, 0 not compared, 0 without differences, 8 with silent ones\n"
+        summary = "4 hosts: 0 differ, 0 not compared, 0 without differences, 4 with silent ones\n"
         self.assertTrue(said.output_text.endswith(summary), said)
-        state = fleet.state("h07")
+        state = fleet.state("h03")
         self.assertIn("left_out=1\n", state, "how many changes are left out")
         self.assertIn(f"new_sha256={sha256(idle(9))}\n", state, "of the whole database")
         report = fleet.call("aide-compare hosts report", "--format=json", self.hosts)
@@ -256,4 +257,4 @@ class HostsQuietTest(CommandTest):
         os.symlink("/etc/passwd", self.path("hosts"))
         self.assertNotEqual(fleet.call(remove, *words, "root").status, 0)
         for name in ("..", "a/b", "-x"):
-            self.assertEqual(fleet.call(remove, *words, "--", name).status, 15, name)
+            self.assertEqual(misused(self, remove, *words, "--", name)[0], 15, name)

@@ -20,6 +20,7 @@ from tests.lib.answer import Answer
 from tests.lib.waiting import until
 
 from .made_up import path_of
+from .units.calls import misused
 from .sandbox import CommandTest, END, NEW, OLD
 from .test_fleet import Fleet
 
@@ -165,9 +166,8 @@ class HostsReportTest(CommandTest):
         hosts = Hosts(self)
         hosts.list_hosts("good1")
         for words in ("--max-age 31d", "x", "--attach-page", "--weekly", "--format=json --to root"):
-            said = hosts.report(*words.split())
-            self.assertEqual((said.status, said.output_text), (15, ""), words)
-            self.assertTrue(said.error_text, words)
+            given = ("--store", self.path("store"), *words.split(), self.path("hosts"))
+            self.assertEqual(misused(self, "aide-compare hosts report", *given)[0], 15, words)
 
     def test_not_compared(self) -> None:
         """Whatever is not the result of today counts as not compared."""

@@ -12,6 +12,7 @@ from tests.lib.scratch import read
 
 from .mail import COUNTS, MailTest, SUBJECT, TOOL, body, call, check_size, logging
 from .mail import many, sent, subject, take_mail, words_of
+from .units.calls import misused
 from .sandbox import NEW, OLD, sha256
 from .test_without import list_database
 
@@ -66,10 +67,10 @@ class TextsTest(MailTest):
         self.assertEqual(call(self, "old.db", "new.db").status, 15)
         self.assertIn("this option cannot be a default: --odd", words_of(body(sent(self))))
         os.remove(self.path("etc/defaults"))
-        addresses = ["--to", ""], ["--to", "a\nBcc: b"], ["--to", "-x"], ["--to", "é"]
-        for words in (*addresses, ["--weekly=Foo"], ["--mail-time", "x"], ["more"]):
-            answer = call(self, "old.db", "new.db", *words)
-            self.assertEqual((answer.status, sent(self)), (15, None), (words, answer))
+        addresses = ["--to", ""], ["--to", "a\nBcc: b"], ["--to", "-x"], ["--to", "é\x01"]
+        for words in (*addresses, ["--weekly=Foo"], ["--mail-time", "x"]):
+            self.assertEqual(misused(self, TOOL, "old.db", "new.db", *words)[0], 15, words)
+        self.assertEqual((call(self, "old.db", "new.db", "more").status, sent(self)), (15, None))
         said = b"two outputs have one place, such as standard output"
         self.refused(15, said, TOOL, "--json=-", "--page=-", "old.db", "new.db", state="state")
         self.assertIn(said, body(sent(self)))

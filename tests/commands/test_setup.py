@@ -124,9 +124,7 @@ class SetupTest(CommandTest):
         self.assertFalse([call for call in self.calls() if "mail" in call])
 
     def test_addresses(self) -> None:
-        for text in ("a@b\n--exclude /**", "", "-x", "a@b\x01"):
-            said = b"an address" if text != "-x" else None
-            self.expect("the address %r" % text, self.call(TOOL, "--to", text), 15, b"", said)
+        self.refused(15, b"an address", TOOL, "--to", "a@b\n--exclude /**")
 
     def test_first(self) -> None:
         done = self.call(TOOL, "--to", "a@example.org", before=UMASK % 0o77)

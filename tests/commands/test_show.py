@@ -6,12 +6,14 @@ import unittest
 
 from tests.commands.viewers.pages import HAS_NODE, seen
 
+from .units.calls import misused
 from .sandbox import CommandTest, END, HEAD
 
 TOOL = "aide-compare show"
 COLUMNS = b"@@begin_db\n@@db_spec name lname attr perm bcount uid gid size mtime inode lcount"
 COLUMNS += b" sha256 acl xattrs\n"
 ATTR = (1 << 64) - 1
+PAIR = ("old.db", "new.db")
 
 
 class ShowTest(CommandTest):
@@ -22,9 +24,9 @@ class ShowTest(CommandTest):
             ("/c", "open medium changed File: /c\n    size       10 -> 7\n"),
             ("/e", "no change at these paths\n"),
         ):
-            for names in (("old.db", "new.db"), ("old.db.gz", "new.db.gz")):
-                answer = self.answered(7, None, [b"4 open of 4 changes"], TOOL, path, *names)
-                self.assertTrue(answer.output.decode().startswith(lines), answer)
+            names = [name + ".gz" * (path == "/c") for name in PAIR]
+            answer = self.answered(7, None, [b"4 open of 4 changes"], TOOL, path, *names)
+            self.assertTrue(answer.output.decode().startswith(lines), answer)
         self.answered(0, b"no differences", None, TOOL, "/d", "new.db", "new.db.gz")
         self.write("etc/without", "/d\n")
         self.answered(7, b"left out changed File: /d", None, TOOL, "/d", "old.db", "new.db")
@@ -91,13 +93,12 @@ class ShowTest(CommandTest):
             self.assertEqual(output.count(b"File: "), 1, output)
 
     def test_refused(self) -> None:
-        pair = ["old.db", "new.db"]
-        rows: list[tuple[list[str], int, bytes]] = [
-            (["c", *pair], 15, b"a path begins with /"),
-            (["/c", "old.db"], 15, b"name both databases"),
-            ([], 15, b"PATH comes first"),
-            (["-q", "/c", *pair], 15, b"PATH comes first"),
-            (["/c", "old.db", "no.db"], 18, b"cannot open the new database no.db"),
-        ]
-        for words, status, said in rows:
-            self.expect("%s" % words, self.call(TOOL, *words), status, b"", said)
+        for words, said in (
+            (["c", *PAIR], "a path begins with /"),
+            (["/c", "old.db"], "name both databases"),
+            (["-q", "/c", *PAIR], "PATH comes first"),
+        ):
+            status, text = misused(self, TOOL, *words)
+            self.assertEqual((status, said in text), (15, True), (words, text))
+        self.refused(15, b"PATH comes first", TOOL)
+        self.refused(18, b"cannot open the new database no.db", TOOL, "/c", "old.db", "no.db")

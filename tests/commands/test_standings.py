@@ -92,13 +92,6 @@ def check(sandbox: CommandTest, host: Host, *words: str) -> Answer:
     return sandbox.call(NAGIOS, "--state", "state", *words)
 
 
-def is_mailed(sandbox: CommandTest, host: Host, *words: str) -> bool:
-    """Whether a mail is sent of two nights."""
-    host.write(sandbox)
-    mail.call(sandbox, *words, "host-old.db", "host-new.db")
-    return mail.sent(sandbox) is not None
-
-
 class StandingsTest(mail.MailTest):
     def test_places(self) -> None:
         """The brief, the state and standard error say the same; the report has none of it."""
@@ -123,13 +116,13 @@ class StandingsTest(mail.MailTest):
     def test_status(self) -> None:
         """The status of each command is that of what is not silent; that of a report is AIDE's."""
         databases = ("host-old.db", "host-new.db")
-        for host, status in ((silent(), 0), (recorded(), 4)):
+        for host, status, report in ((silent(), 0, "--report"), (recorded(), 4, "--report -q")):
             host.write(self)
-            for tool in (TOOL, f"{TOOL} -q", f"{TOOL} json", f"{TOOL} page", mail.TOOL):
+            for tool in (TOOL, f"{TOOL} json", f"{TOOL} page", mail.TOOL):
                 self.assertEqual(self.call(tool, *databases).status, status, tool)
             self.assertEqual(mail.sent(self) is not None, bool(status))
-            for tool in (f"{TOOL} --report", f"{TOOL} --report -q"):
-                self.assertEqual(self.call(tool, "--state", "state", *databases).status, 4, tool)
+            answer = self.call(f"{TOOL} {report}", "--state", "state", *databases)
+            self.assertEqual(answer.status, 4, answer)
             found = self.state()
             self.assertEqual((found["status"], found["told_status"]), ("4", str(status)))
             metrics = self.call(f"{TOOL} status --format prometheus --state state").output
@@ -175,10 +168,8 @@ class StandingsTest(mail.MailTest):
 
     def test_alarms(self) -> None:
         """What is silent raises no alarm. What a package's records have does."""
-        hosts = ((silent(), 0, False), (recorded(), 1, True), (sample(), 2, True))
-        for host, status, mails in hosts:
+        for host, status in ((silent(), 0), (recorded(), 1), (sample(), 2)):
             self.assertEqual(check(self, host).status, status)
-            self.assertEqual(is_mailed(self, host), mails, status)
         answer = check(self, recorded(), "--critical", "1")
         self.assertEqual(answer.status, 2, "limits count what is recorded")
 
@@ -198,11 +189,12 @@ class StandingsTest(mail.MailTest):
             want = [b"the changes are not judged: ", said]
             self.expect(f"no judgement by {fault}", answer, 4, b"Changed entries:", want)
             self.assertFalse(COUNTS.keys() & self.state().keys(), ("the state then", self.state()))
-            answer = self.call(NAGIOS, "--state", "state")
-            self.expect("the check then", answer, 2, b"AIDE CRITICAL", b"")
-            self.assertTrue(is_mailed(self, host), "a mail then")
-            answer = self.call("aide-compare page", "host-old.db", "host-new.db")
-            self.expect("the page then", answer, 4, b"<pre>Differ", want)
+        answer = self.call(NAGIOS, "--state", "state")
+        self.expect("the check then", answer, 2, b"AIDE CRITICAL", b"")
+        mail.call(self, "host-old.db", "host-new.db")
+        self.assertIsNotNone(mail.sent(self), "a mail then")
+        answer = self.call("aide-compare page", "host-old.db", "host-new.db")
+        self.expect("the page then", answer, 4, b"<pre>Differ", want)
         self.replaced = before
         self.after_import("lines.change", "Counts.fits\nCounts.fits = lambda *_: False\n")
         said = b"the counts of the standings are not those of the changes"
@@ -225,13 +217,14 @@ class StandingsTest(mail.MailTest):
     def test_hostile(self) -> None:
         """Names of others are escaped in the text, and cannot make a line of it."""
         names = (b"\nOpen, severity high:", b"\033[31m", b"\xe2\x80\xae", b"\xff", b"\\")
+        host = Host()
         for name in names:
-            host = Host()
             host.new.file(b"/a" + name, ONE)
-            text = host.brief(self)
-            self.assertEqual(len(text.split("\n")), 6, text)
-            self.assertTrue(text.isascii() and text.replace("\n", "").isprintable(), text)
-            self.assertIn("\\", text)
+        text = host.brief(self)
+        lines = text.split("\n")
+        self.assertEqual(len(lines), 5 + len(names), text)
+        self.assertTrue(text.isascii() and text.replace("\n", "").isprintable(), text)
+        self.assertEqual(sum("\\" in line for line in lines), len(names), text)
 
     def test_terminal(self) -> None:
         """A terminal gets the same bytes as a pipe."""

@@ -10,6 +10,7 @@ import time
 from typing import Any
 
 from .forked import Forked
+from .units.calls import misused
 from .sandbox import AS_NOBODY, NOBODY, UMASK
 from .states import NOTHING, StateTest
 
@@ -84,9 +85,8 @@ class StatusTest(StateTest):
     def test_arguments(self) -> None:
         odd = ["--format", "prometheus", "a", "b"], ["--format", "json", "x"], ["--critical", "5x"]
         ignored = ["--format", "json", "--max-age", "2h"], ["--format", "prometheus", "--quiet"]
-        for words in odd + ignored:
-            answer = self.call(STATUS, *words)
-            self.expect(f"status with {words}", answer, 15, b"", b"aide-compare status: ")
+        for words in (*odd, *ignored, ["--max-age", "31d"], ["--state", ""]):
+            self.assertEqual(misused(self, STATUS, *words)[0], 15, words)
 
     def test_people(self) -> None:
         """A short text for people: when, what was found, and the commands that follow from it."""
@@ -129,7 +129,7 @@ class StatusTest(StateTest):
         command that was typed wrongly changes nothing."""
         for tool in ("aide-compare", "aide-compare mail --queue queue"):
             for name, text in (("defaults", "--odd\n"), ("without", "no path\n")):
-                self.ask("aide-compare", "old.db", "old.db.gz")
+                self.put()
                 self.write("etc/" + name, text)
                 answer = self.ask(tool, "old.db", "new.db")
                 state = self.state()
@@ -138,10 +138,9 @@ class StatusTest(StateTest):
                 self.assertEqual(found, (str(status), status), (tool, name, answer))
                 self.assertIn("line 1", state["error"])
                 os.remove(self.path("etc/" + name))
-            self.ask("aide-compare", "old.db", "old.db.gz")
-            before = self.read("state")
-            self.ask("aide-compare", "--odd", "old.db", "new.db")
-            self.assertEqual(self.read("state"), before, "a wrong command changes no state")
+        before = self.read("state")
+        self.ask("aide-compare", "--odd", "old.db", "new.db")
+        self.assertEqual(self.read("state"), before, "a wrong command changes no state")
 
     def test_links(self) -> None:
         """The owner of the folder of the metrics puts links to a file of root in place of every
@@ -222,8 +221,7 @@ class CheckTest(StateTest):
         self.answered(0, b"", b"", "aide-compare status", "--state=state", "--max-age=0", "-q")
         self.put(age=-4000)
         self.check("a state from the future", 3, "in the future")
-        for words in (["--max-age", "31d"], ["--odd|\n"], ["--state", ""]):
-            self.check(f"the arguments {words}", 3, words=words)
+        self.check("an odd argument", 3, words=["--odd|\n"])
 
     def test_check_files(self) -> None:
         """What is no state file is UNKNOWN."""
@@ -263,12 +261,15 @@ class CheckTest(StateTest):
         self.assertEqual(self.ask(CHECK, before=none).status, 0, "it needs no process")
         with open("/dev/full", "wb") as full:
             self.assertEqual(self.ask(CHECK, stdout=full).status, 3, "a full device")
-        for name in ("show/check", "commands/status", "compare/state"):
+        for name, text in (
+            ("show/check", "import a_missing_module"),
+            ("commands/status", "raise MemoryError"),
+            ("compare/state", "raise KeyError"),
+        ):
             module = f"lib/aide_compare/{name}.py"
-            for text in ("import a_missing_module", "raise MemoryError", "raise KeyError"):
-                kept = self.read(module)
-                self.write(module, text)
-                answer = self.ask(CHECK)
-                self.write(module, kept)
-                self.assertEqual(answer.status, 3, (name, text, answer))
-                self.assertIn(b"UNKNOWN", answer.output)
+            kept = self.read(module)
+            self.write(module, text)
+            answer = self.ask(CHECK)
+            self.write(module, kept)
+            self.assertEqual(answer.status, 3, (name, text, answer))
+            self.assertIn(b"UNKNOWN", answer.output)

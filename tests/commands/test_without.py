@@ -276,11 +276,9 @@ class WithoutTest(CommandTest):
         for listed, name, digest, is_said in rows:
             for database in ("list.db", "list-new.db"):
                 self.write(database, list_database(listed, name.encode(), digest))
-            for words in (
-                ["--exclude-from", "list"],
-                ["--exclude-from", "link"],
-                ["--exclude-from", os.fsdecode(path), "--exclude", "/etc/**"],
-            ):
-                answer = self.call("aide-compare", *words, "list.db", "list-new.db")
+            ways = [["link"], ["list"], [os.fsdecode(path), "--exclude", "/etc/**"]]
+            for words in ways if is_said and name == "sha512" else ways[:1]:
+                given = ("--exclude-from", *words, "list.db", "list-new.db")
+                answer = self.call("aide-compare", *given)
                 is_due = is_said and (listed == path or "link" in words)
                 self.assertEqual((answer.status, said in answer.errors), (0, is_due), answer)

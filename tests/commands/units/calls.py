@@ -3,11 +3,15 @@ from __future__ import annotations
 
 import os
 from collections.abc import Callable
+from contextlib import suppress
 from typing import Any
+from unittest import mock
 
 from tests.lib.program_test import ScratchTest
 
-from aide_compare.base.ending import Fault, fault_of
+from aide_compare.base import parser
+from aide_compare.base.ending import Done, Fault, fault_of
+from aide_compare.commands import front
 
 OTHER = 65534
 
@@ -17,6 +21,19 @@ def outcome(work: Callable[..., Any], *given: Any, **more: Any) -> Any:
         return work(*given, **more)
     except Fault as fault:
         return int(fault.status), fault.text
+
+
+def misused(scratch: ScratchTest, tool: str, *words: str) -> Any:
+    """The status and the text of words that a command refuses before it does anything."""
+    with mock.patch.object(parser, "DIRECTORY", scratch.path("etc")):
+        return outcome(front.main, [*tool.split(" ")[1:], *words])
+
+
+def helped(*words: str) -> bytes:
+    """What is printed for words that ask for the help of a command."""
+    with mock.patch.object(parser, "write_all") as written, suppress(Done):
+        front.main(words)
+    return bytes(written.call_args[0][1])
 
 
 def in_child(work: Callable[[], bytes]) -> bytes:
