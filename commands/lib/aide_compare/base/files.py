@@ -63,7 +63,7 @@ def is_name(shown_path: str) -> bool:
 
 
 def file_kind(mode: int) -> str:
-    return "a " + FILE_KINDS.get(stat.S_IFMT(mode), "device")
+    return f"a {FILE_KINDS.get(stat.S_IFMT(mode), 'device')}"
 
 
 def refuse_other_kinds(mode: int) -> None:

@@ -30,7 +30,7 @@ def minute_of(seconds: int) -> str:
     date = date_of(seconds)
     if date.startswith("@"):
         return date
-    return date.replace("T", " ")[: -len(":00Z")] + " UTC"
+    return f"{date.replace('T', ' ')[: -len(':00Z')]} UTC"
 
 
 def age_in_words(seconds: float) -> str:

@@ -41,7 +41,7 @@ def set_id_bits(rights: Side, mode: int) -> int:
 
 
 def may_have_set_id(rights: Side) -> bool:
-    return rights is not None and bool(set_id_bits(rights, rights.most))
+    return rights is not None and set_id_bits(rights, rights.most) != 0
 
 
 def has_other_type(old: Side, new: Side) -> bool:
@@ -59,7 +59,7 @@ def gains_set_id(old: Side, new: Side) -> bool:
     if new is None:
         return False
     before = 0 if old is None else old.least
-    return bool(set_id_bits(new, new.most) & ~set_id_bits(old, before))
+    return set_id_bits(new, new.most) & ~set_id_bits(old, before) != 0
 
 
 def has_capabilities(rights: Side) -> bool:
@@ -118,12 +118,19 @@ def may_be_executable(rights: Side) -> bool:
     return (rights.is_file or not rights.type) and bool(rights.most & RUN_BITS)
 
 
-def type_of(old: Side, new: Side) -> str:
-    """The type of the entry as it is now, or as it was if it is gone."""
-    rights = new or old
-    if rights is None:
-        return ""
-    return rights.type
+def either(test: Callable[[Side], bool]) -> Callable[[Side, Side], bool]:
+    """Whether this holds on one side."""
+    return lambda old, new: test(old) or test(new)
+
+
+def has_type(word: str) -> Callable[[Side, Side], bool]:
+    """Whether the entry as it is now, or as it was if it is gone, has this type."""
+
+    def test(old: Side, new: Side) -> bool:
+        rights = new or old
+        return rights is not None and rights.type == word
+
+    return test
 
 
 # What each word of a line tests.
@@ -134,16 +141,16 @@ TESTS: dict[str, Callable[[Side, Side], bool]] = {
     "changed": lambda old, new: old is not None and new is not None,
     "type": has_other_type,
     "same-rights": has_same_rights,
-    "set-id": lambda old, new: may_have_set_id(old) or may_have_set_id(new),
+    "set-id": either(may_have_set_id),
     "new-set-id": gains_set_id,
-    "capabilities": lambda old, new: has_capabilities(old) or has_capabilities(new),
+    "capabilities": either(has_capabilities),
     "new-capabilities": gains_capabilities,
     "new-acl": gains_acl,
     "new-writers": gains_writers,
-    "executable": lambda old, new: may_be_executable(old) or may_be_executable(new),
-    "file": lambda old, new: type_of(old, new) == "File",
-    "directory": lambda old, new: type_of(old, new) == "Directory",
-    "link": lambda old, new: type_of(old, new) == "Link",
+    "executable": either(may_be_executable),
+    "file": has_type("File"),
+    "directory": has_type("Directory"),
+    "link": has_type("Link"),
 }
 
 
@@ -158,9 +165,8 @@ class Held(NamedTuple):
 def held_by(old: Side, new: Side) -> Held:
     """What the rights of an entry on both sides mean."""
     held = sum(BITS[word] for word, test in TESTS.items() if test(old, new))
-    is_kept = old is not None and new is not None
-    opens_programs = is_kept and type_of(old, new) == "Directory"
-    return Held(held, opens_programs and not has_same_rights(old, new))
+    opens = BITS["changed"] | BITS["directory"]
+    return Held(held, held & (opens | BITS["same-rights"]) == opens)
 
 
 # The bit of each test in a number that says which hold.

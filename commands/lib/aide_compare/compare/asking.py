@@ -75,8 +75,8 @@ def ask_for_changes(
     words = [b"-E", b"--after=" + texts.after + b"\n" + last]
     for side in TRUSTED_SIDES:
         if side in databases:
-            option = "--" + side.replace("_", "-")
-            words.append(f"{option}=/proc/self/fd/{DESCRIPTORS[side]}".encode())
+            option = f"--{side.replace('_', '-')}=/proc/self/fd/{DESCRIPTORS[side]}"
+            words.append(option.encode())
     if without:
         words.append(b"--without=" + without)
     return _ask(program, words, texts, places, take, first)

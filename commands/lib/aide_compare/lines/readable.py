@@ -81,7 +81,7 @@ def _from_base64(text: bytes) -> bytes | None:
 def _cut(text: str) -> str:
     if len(text) <= MAX_TEXT:
         return text
-    return text[:MAX_TEXT] + "..."
+    return f"{text[:MAX_TEXT]}..."
 
 
 def _acl_entries(text: bytes) -> list[str] | None:
@@ -136,7 +136,7 @@ def _attribute_text(name: bytes, data: bytes) -> str:
     with suppress(UnicodeDecodeError):
         if re.fullmatch(TEXT, data.decode()):
             return f'"{shown(data, MAX_TEXT).translate(QUOTED_ESCAPES)}"'
-    return "0s" + base64.b64encode(data[:MAX_TEXT]).decode()
+    return f"0s{base64.b64encode(data[:MAX_TEXT]).decode()}"
 
 
 def xattrs_text(value: bytes) -> str | None:

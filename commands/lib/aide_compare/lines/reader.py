@@ -153,7 +153,7 @@ class EndCounts(NamedTuple):
 
     @property
     def changes(self) -> int:
-        return self.added + self.removed + self.changed
+        return sum(self.kinds)
 
     @property
     def status(self) -> int:

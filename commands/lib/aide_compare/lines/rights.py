@@ -8,6 +8,7 @@ from __future__ import annotations
 
 import base64
 import re
+from contextlib import suppress
 from typing import Any, NamedTuple, Optional
 
 from aide_compare.base.directories import OTHERS_WRITE
@@ -38,11 +39,9 @@ def is_access_list(field: bytes) -> bool:
         return True
     if not match[1]:
         return False
-    try:
-        text = base64.b64decode(match[1], validate=True)
-    except ValueError:
-        return True
-    return not re.fullmatch(BASE_ACL, text)
+    with suppress(ValueError):
+        return not re.fullmatch(BASE_ACL, base64.b64decode(match[1], validate=True))
+    return True
 
 
 def capability_in(xattrs: bytes) -> bytes | None:
@@ -92,9 +91,7 @@ class Rights(NamedTuple):
     @property
     def least(self) -> int:
         """The bits of the mode that are set for sure."""
-        if self.permissions is None:
-            return 0
-        return self.permissions
+        return self.permissions or 0
 
     @property
     def most(self) -> int:
@@ -120,7 +117,7 @@ class Rights(NamedTuple):
 
     @property
     def has_capabilities(self) -> bool:
-        return any(each is not None for each in self.capability_sets)
+        return self.capability_sets != (None, None)
 
     @property
     def has_access_list(self) -> bool:
@@ -149,12 +146,18 @@ Sides = tuple[Side, Side]
 Object = dict[str, Any]
 
 
-def _bytes_in(values: Object, name: str) -> bytes | None:
-    """The bytes of a value that is a text, or in base 16 where it is not UTF-8; None without it."""
-    if name in values:
-        return bytes(values[name].encode("utf-8"))
+def bytes_of(values: Object, name: str) -> bytes:
+    """The bytes of a value that is a text, or in base 16 where it is not UTF-8."""
     if f"{name}_hex" in values:
         return bytes.fromhex(values[f"{name}_hex"])
+    text: str = values[name]
+    return text.encode("utf-8")
+
+
+def _bytes_in(values: Object, name: str) -> bytes | None:
+    """The same; None without it."""
+    with suppress(KeyError):
+        return bytes_of(values, name)
     return None
 
 
@@ -213,6 +216,4 @@ def owner_of(old: Side, new: Side) -> int | None:
     known = [owner for owner in owners if owner is not None]
     if ROOT in known:
         return ROOT
-    if not known or len(known) < len(owners):
-        return None
-    return min(known)
+    return min(known) if known and None not in owners else None

@@ -17,15 +17,13 @@ MAX_NAME = 40
 MIN_NAME = 3  # With the comma and the blank behind it.
 
 
-def silent_words(counts: Counts) -> str:
-    """As in "Silent: 460 same, 8 trusted, left out: 3 of 512 changes"; "" if no change is."""
+def silent_lines(counts: Counts) -> list[str]:
+    """As in "Silent: 460 same, 8 trusted, left out: 3 of 512 changes"; none if no change is."""
     silent = (Standing.SAME, Standing.TRUSTED)
     parts = [f"{counts.of(each)} {each.value}" for each in silent if counts.of(each)]
     if counts.left_out:
         parts.append(counts.left_out_words())
-    if not parts:
-        return ""
-    return f"Silent: {', '.join(parts)}"
+    return [f"Silent: {', '.join(parts)}"] if parts else []
 
 
 def names_lines(title: str, names: Sequence[str], room: Room) -> list[str]:
@@ -50,8 +48,7 @@ def brief(judged: Judged, room: Room, warnings: Sequence[str] = (), height: int 
     head = [counts.words(), *warnings]
     for title, names in judged.named.items():
         head += names_lines(title, names, room)
-    silent = silent_words(counts)
-    end = [group_lines(judged, room.groups, room.width), [silent] if silent else []]
+    end = [group_lines(judged, room.groups, room.width), silent_lines(counts)]
     if height:
         used = len(head) + sum(len(part) + 1 for part in end if part) + 1 + len(SEVERITIES)
         room = room._replace(height=max(height - used, 1))

@@ -117,10 +117,8 @@ def in_directory(key: bytes, width: int) -> str:
 
 def digest(table: Table, room: Room, names: Names) -> Iterator[Part]:
     """The parts of the open changes that there is room for."""
-    if room.is_of_hosts:
-        parts = list(table.ask(SIZES_OF_HOSTS, room.first, room.named))
-    else:
-        parts = list(table.ask(SIZES))
+    hosts = SIZES_OF_HOSTS, room.first, room.named
+    parts = list(table.ask(*hosts) if room.is_of_hosts else table.ask(SIZES))
     sizes = [size for _, _, size, _ in parts]
     shares = [min(size, room.shares[level][owners]) for level, owners, size, _ in parts]
     height = room.height or sum(shares)
@@ -194,7 +192,7 @@ def shortened(text: str, width: int) -> str:
     if len(text) <= width:
         return text
     end = (width - len("...")) // 2
-    return text[:end] + "..." + text[-end:]
+    return f"{text[:end]}...{text[-end:]}"
 
 
 def shortened_path(path: bytes, width: int) -> str:

@@ -26,12 +26,11 @@ from aide_compare.lines.change import (
     Texts,
     Value,
     Values,
-    bytes_of,
     change_of,
 )
 from aide_compare.lines.readable import texts_of
 from aide_compare.lines.reader import AFTER_PATH, HEX, VALUE, Forms, embedded
-from aide_compare.lines.rights import differing
+from aide_compare.lines.rights import bytes_of, differing
 from aide_compare.show.json_lines import marked_lines
 from aide_compare.show.brief import brief_of
 
