@@ -66,6 +66,7 @@ PLAIN = re.compile(rb'\{"kind":"[a-z]+","path":"/[ !#-;=-\[\]-~]{,4000}"')
 MARK = 10**14
 MARKS = re.compile(b"10{11}[0-9]{3}")
 VALUE_TEXT = re.compile(b'[^:"]+')
+USUAL = re.compile(rb"[0-9A-Za-z+/=]*")  # Numbers and digests that are put there as they are.
 # Of a value of a host.
 MAX_VALUE = 100000
 MAX_NUMBER = 1 << 53  # A script would round it.
@@ -226,7 +227,9 @@ class Rows:
         match = form.match(line)
         text = form.value(values_like) if match else b""
         if match and text:
-            return text % match.groups()[1:]
+            values = match.groups()[1:]
+            if USUAL.fullmatch(b"".join(values)):
+                return text % values
         return values_in(line)
 
     def remarks(self) -> list[str]:
