@@ -188,16 +188,25 @@ class Inside:
 
     def __init__(self, rows: list[tuple[Row, tuple[int, ...]]]) -> None:
         self.rows = rows
+        # What tests the next piece of a path. Most pieces pass none, and these are all alike.
+        self.steps = {row.pattern.tests[place] for row, places in rows for place in places}
+        self.other: Inside | None = None
 
     @lru_cache(maxsize=256)
     def below(self, piece: bytes) -> Inside:
         """The same of a directory in this one."""
+        passes = any(step and step(piece) for step in self.steps)
+        if self.other and not passes:
+            return self.other
         after = ((row, row.pattern.after(places, piece)) for row, places in self.rows)
         rows = [(row, places) for row, places in after if places]
-        if rows == self.rows:  # As in most directories that are deep.
-            return self
-        return Inside(rows)
+        # As in most directories that are deep.
+        inside = self if rows == self.rows else Inside(rows)
+        if not passes:
+            self.other = inside
+        return inside
 
+    @lru_cache(maxsize=256)
     def tests(self, held: int) -> list[tuple[Test | None, int]]:
         """The tests of the last piece of a path, None for any, by the rows of which the other tests
         hold."""
