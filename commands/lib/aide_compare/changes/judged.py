@@ -25,7 +25,7 @@ from aide_compare.changes.weighing import directory_of, known_of
 from aide_compare.lines.change import Change, Counts, Standing, change_of
 from aide_compare.lines.reader import Form, Forms, Reader
 
-COUNTS = "select standing, level, kind, count(*) from changes group by 1, 2, 3"
+COUNTS = "select standing, level, kind, sum(size) from counted group by 1, 2, 3 having sum(size)"
 # The titles above the packages that people hear of first.
 TITLES = ("Unsigned packages", "New packages", "Removed packages")
 # The files of a package among dpkg's records.
@@ -69,20 +69,12 @@ class Judged:
                 if form is not last or directory != above or not directory:
                     last = form
                     above = directory
-                    known = form.value(known_of)
-                    rank_of = severity.ranks(directory, known.held)
+                    held, owners, party, asked = form.value(known_of)
+                    kind = form.kind
+                    rank_of = severity.ranks(directory, held)
                     site = bytearray(directory_of(key))
-                yield (
-                    bytearray(key),
-                    site,
-                    form.kind,
-                    known.owners,
-                    rank_of(name),
-                    known.party,
-                    known.asked,
-                    line_at,
-                    size,
-                )
+                rank = rank_of(name)
+                yield bytearray(key), site, kind, owners, rank, party, asked, line_at, size
             line_at += size
 
     @cached_property

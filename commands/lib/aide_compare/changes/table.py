@@ -2,10 +2,11 @@
 is a question to it, in the one order of ORDER."""
 from __future__ import annotations
 
+from collections import Counter
 from collections.abc import Iterable, Iterator
 from functools import lru_cache
 from itertools import islice
-from typing import NamedTuple
+from typing import Any, NamedTuple
 
 from aide_compare.base.ending import Fault, Status
 from aide_compare.base.paths import path_of
@@ -23,6 +24,15 @@ create table changes (
     standing text default 'open', package text default '', is_listed integer default false,
     level integer as (rank / {RANKS})
 )"""
+# How many changes were added of one kind, group of owners and rank. They are counted meanwhile,
+# since asking the table for it takes as long as putting all in order.
+SIZES = "create table sizes (kind text, owners integer, rank integer, size integer)"
+# The same by what the changes are now.
+COUNTED = f"""
+create view counted as
+select 'open' as standing, rank / {RANKS} as level, owners, kind, size from sizes
+union all select standing, level, owners, kind, 1 from changes where standing = 'recorded'
+union all select 'open', level, owners, kind, -1 from changes where standing = 'recorded'"""
 # What a change is inserted with. For a bytearray and a number, but not for bytes and None, sqlite3
 # looks for no function that would adapt them, which takes as long as all else.
 Values = tuple[bytearray, bytearray, str, int, int, int, str, int, int]
@@ -59,13 +69,22 @@ class Table(Rows):
 
     def __init__(self) -> None:
         super().__init__(SCHEMA)
+        self.do(SIZES)
+        self.do(COUNTED)
 
     def __len__(self) -> int:
         return int(next(self.ask("select coalesce(max(place), 0) from changes"))[0])
 
     def add(self, changes: Iterable[Values]) -> None:
         """Takes changes in the order of paths; a Fault if they are too many."""
-        self.do_all(INSERT, islice(changes, MAX_ROWS + 1))
+        sizes: Counter[Any] = Counter()
+
+        def counted(change: Values) -> Values:
+            sizes[change[2:5]] += 1
+            return change
+
+        self.do_all(INSERT, map(counted, islice(changes, MAX_ROWS + 1)))
+        self.do_all("insert into sizes values (?, ?, ?, ?)", ((*key, sizes[key]) for key in sizes))
         if len(self) > MAX_ROWS:
             text = f"there are more than {MAX_ROWS} changes that are not silent"
             raise Fault(Status.DEVICE, text)

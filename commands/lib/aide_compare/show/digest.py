@@ -26,7 +26,10 @@ SIZE = " [0-9]+ bytes$"
 # What open changes of one severity and one group of owners have in common.
 PART = f"{LISTED} and level = ? and owners = ?"
 IN_ORDER = f"select place, party, site from changes where {PART} order by {ORDER_OF_PART}"
-SIZES = f"select level, owners, count(*), count(*) from changes where {LISTED} group by 1, 2"
+SIZES = f"""
+select level, owners, sum(size), sum(size) from counted where {LISTED}
+group by 1, 2 having sum(size)
+"""
 # The same, and how many lines the first of each host need, with those that count the others.
 SIZES_OF_HOSTS = f"""
 select level, owners, count(*), min(count(*), sum(turn <= ?) + ?)
