@@ -10,6 +10,7 @@ import base64
 import os
 import re
 from collections.abc import Iterator, Mapping, Sequence
+from operator import methodcaller
 from os.path import abspath, realpath
 from typing import NamedTuple
 
@@ -67,13 +68,13 @@ class Exclusions(NamedTuple):
         AIDE writes the path first in the line of an entry."""
         if not self.files:
             return
-        starts = tuple(escaped(path) + b" " for path in self.files)
+        starts = (COLUMNS, *(escaped(path) + b" " for path in self.files))
         columns: list[bytes] = []
         with open(reopened(old.fd, os.O_RDONLY), "rb", BLOCK) as database:
-            for line in database:
+            for line in filter(methodcaller("startswith", starts), database):
                 if line.startswith(COLUMNS):
                     columns = fields_in(line)[1:]
-                elif line.startswith(starts) and columns[:1] == [PATH_COLUMN]:
+                elif columns[:1] == [PATH_COLUMN]:
                     entry = dict(zip(columns, fields_in(line)))
                     path = unescaped(entry[PATH_COLUMN])
                     if not is_text_of(entry, self.files[path]):
