@@ -53,6 +53,7 @@ class TableTest(ModuleTest):
         with mock.patch.object(sqlite3, "connect", side_effect=sqlite3.OperationalError("why")):
             self.fails(18, "name another directory by TMPDIR): why", Table)
 
+    @mock.patch("aide_compare.show.digest.ENOUGH", 9)
     def test_few(self) -> None:
         """Of a directory of a user a mail lists a few changes of severity low, and no later ones
         because he has many."""
@@ -61,8 +62,7 @@ class TableTest(ModuleTest):
         parts = digest(table_of(*changes), MAIL._replace(height=40), lambda *_: "")
         listed = [places[place - 1] for part in parts for place in part.places]
         # Behind ten of two directories are the others, as many of each again.
-        wanted = [place for place in places if place[0] == "1" or place[-1] < "5"]
-        self.assertEqual(listed, wanted)
+        self.assertEqual(listed, [place for place in places if place[0] == "1" or place[-1] < "5"])
 
 
 def put(path: str, text: bytes, mode: int = 0o600) -> None:

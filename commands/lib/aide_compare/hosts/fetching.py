@@ -15,7 +15,7 @@ from aide_compare.hosts.store import CAUSE, NEW_FILE, HostDirectory, write_cause
 
 DATABASE = "/var/lib/aide/aide.db.new"
 # A forced command in authorized_keys of the host stands above this one, and may name another file.
-COMMAND = "cat " + DATABASE
+COMMAND = f"cat {DATABASE}"
 MAX_SENT = 1 << 30
 MAX_ERRORS = 65536
 SSH = (

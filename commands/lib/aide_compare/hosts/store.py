@@ -149,7 +149,7 @@ class HostDirectory:
 
 def make_private(path: str) -> None:
     """Makes a directory, if it is not there. One that another user can write is a Fault."""
-    with OSErrorAsFault("cannot make the directory " + path), suppress(FileExistsError):
+    with OSErrorAsFault(f"cannot make the directory {path}"), suppress(FileExistsError):
         os.mkdir(path, 0o700)
     with open_directory(path) as directory:
         if directory.others:

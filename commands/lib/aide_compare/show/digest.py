@@ -11,6 +11,7 @@ from __future__ import annotations
 import re
 from collections import Counter
 from collections.abc import Callable, Iterable, Iterator, Sequence
+from itertools import chain, islice
 from typing import Any, NamedTuple
 
 from aide_compare.base.escapes import shown
@@ -42,6 +43,8 @@ MOST = f"""
 select site, count(*) from changes where {PART} and not is_listed
 group by 1 order by 2 desc, 1 limit ?
 """
+# So many rows of an answer are mostly enough, and take half as long as all.
+ENOUGH = 1000
 TURN = "update changes set is_listed = not is_listed where place = ?"
 
 # The words, in so many columns, for a site by which the changes that are not listed are counted.
@@ -159,7 +162,9 @@ def chosen(table: Table, level: int, owners: int, limit: int, room: Room) -> lis
     spent: Counter[object] = Counter()
     turns: Counter[object] = Counter()
     question = IN_ORDER_OF_HOSTS if room.is_of_hosts else IN_ORDER
-    for place, party, site in table.ask(question, level, owners):
+    first_rows = table.ask(f"{question} limit {ENOUGH}", level, owners)
+    others = islice(table.ask(question, level, owners), ENOUGH, None)
+    for place, party, site in chain(first_rows, others):
         if len(first) == limit:
             break
         # Root is no party, and neither is a host.
