@@ -90,7 +90,7 @@ def write_blocks(descriptor: int, parts: Iterable[bytes]) -> None:
 
 def tell(*lines: str) -> None:
     """Writes lines to standard output."""
-    write_all(1, encoded("".join(line + "\n" for line in lines)))
+    write_all(1, encoded("".join(f"{line}\n" for line in lines)))
 
 
 def say(text: str) -> None:

@@ -126,7 +126,7 @@ def read_file(path: str | bytes, limit: int, what: str = "") -> bytes:
 def open_trusted(path: str, what: str) -> int:
     """A descriptor of a file of the administrator, such as "the keyring". Only root and the caller
     may be able to change it."""
-    descriptor, is_safe = _opened(path, what + " ")
+    descriptor, is_safe = _opened(path, f"{what} ")
     if not is_safe or others_can_write(os.fstat(descriptor)):
         os.close(descriptor)
         raise Fault(Status.DEVICE, f"other users can write {what} {shown(path)}")

@@ -70,7 +70,7 @@ def aides_configuration() -> str:
 def run_shown(words: Sequence[str], seconds: int = SECONDS) -> None:
     """Runs a program of the system, whose status has to be 0. It is shown first, and writes where
     this command writes."""
-    tell("    " + " ".join(words))
+    tell(f"    {' '.join(words)}")
     with OSErrorAsFault(f"cannot run {words[0]}"):
         status = run_here(words, seconds, ENVIRONMENT)
     if status:

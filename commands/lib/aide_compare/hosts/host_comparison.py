@@ -162,7 +162,7 @@ def keep_comparison(directory: HostDirectory, request: HostsRequest) -> State:
     why = age_fault(directory, request)
     if why:
         state = as_not_compared(directory, state, why)
-        errors += state.error + "\n"
+        errors += f"{state.error}\n"
     directory.write(ERRORS, encoded(errors))
     return state
 

@@ -94,7 +94,7 @@ def shared_lines(shared: SharedChange, hosts: int) -> Iterator[str]:
     yield f"{shared.severity} on {shared.hosts} of {hosts} hosts: {shared.names_text()}"
     yield from (line[:-1] for line in change_lines(shared.change, shared.various))
     if shared.per_host:
-        yield "    of each host: " + ", ".join(map(word_of, shared.per_host))
+        yield f"    of each host: {', '.join(map(word_of, shared.per_host))}"
 
 
 def report_lines(report: Report) -> Iterator[str]:
