@@ -22,8 +22,8 @@ PARTS = [
 ]
 NOBODY = 65534
 # What the scripts may need: the base system without a compiler, git, dpkg-deb or rt.
-NEEDED = """[ awk basename cat chmod cmp comm cp cut date dirname env find grep gzip head id ln ls
-md5sum mkdir mktemp mv printf python3 readlink rm rmdir sed sh sha256sum sort tail tar
+NEEDED = """[ awk basename cat chmod cmp comm cp cut date dirname env find grep gzip head id
+install ln ls md5sum mkdir mktemp mv printf python3 readlink rm rmdir sed sh sha256sum sort tail tar
 touch tr uniq wc xargs""".split()
 
 

@@ -164,7 +164,7 @@ class InstallingTest(InstallTest):
         source, folder = self.copy("damaged"), self.path("half")
         shutil.copy(os.path.join(source, "VERSION"), os.path.join(source, "man", "zzz.1"))
         # This copy of the script stops before its last file, as if it was killed there.
-        killed = b"put() {\n    case $4 in */zzz.1) kill -9 $$ ;; esac\n"
+        killed = b"put() {\n    case $* in */zzz.1) kill -9 $$ ;; esac\n"
         script = self.read("damaged/packaging/install").replace(b"put() {\n", killed)
         self.write("damaged/packaging/install", script)
         room = dict(os.environ, TMPDIR=self.root)  # Its private directory is left.
@@ -306,6 +306,7 @@ class InstallingTest(InstallTest):
         # Its text is edited when it is installed.
         table = "TABLE = '/usr/local/share/aide-compare/severity.conf'\n"
         self.write("coded/commands/lib/aide_compare/show/former.py", table)
+        self.write("coded/commands/lib/aide_compare/show/__pycache__/gone.cpython-39.pyc", "")
         byte_code.install(self, "a first time", source, prefix)
         for change in ("nothing", "two modules"):
             if change == "two modules":
