@@ -1,20 +1,18 @@
 """A copy of what is installed from, a folder to install to, and the counts."""
 from __future__ import annotations
 
-import atexit
 import hashlib
 import os
 import shutil
 import stat
 import subprocess
-import tempfile
 from typing import Any
 
 from tests.commands.sandbox import compiled_commands
 from tests.lib.answer import Answer, run
 from tests.lib.program_test import ScratchTest
 from tests.lib.programs import find_program, lines_program_of
-from tests.lib.scratch import TOP, read
+from tests.lib.scratch import TOP, Scratch, read
 
 PARTS = [
     *("commands contrib docs examples/small_tree man packaging".split()),
@@ -27,23 +25,8 @@ install ln ls md5sum mkdir mktemp mv printf python3 readlink rm rmdir sed sh sha
 touch tr uniq wc xargs""".split()
 
 
-# The directory of what is installed once.
-FIRST: list[str] = []
-
-
-class InstallTest(ScratchTest):
-    """Each test installs below a directory of its own from a copy that it may change."""
-
-    def setUp(self) -> None:
-        program = find_program()
-        super().setUp()
-        self.program = self.copied_programs(program, "built programs", "aide")
-        self.newer = [
-            self.make_newer(one) for one in (self.program, lines_program_of(self.program))
-        ]
-        self.source = self.copy("source")
-        self.version = read("VERSION").strip()
-        self.plain_path = self.make_plain_path()
+class Sources(Scratch):
+    """A directory with copies of what is installed."""
 
     def copied_programs(self, program: str, folder: str, name: str) -> str:
         """The path of a copy of the program in a new folder, where that of lines is too."""
@@ -82,11 +65,28 @@ class InstallTest(ScratchTest):
         """A folder for PATH with few programs: neither rt nor dpkg-deb is found through it."""
         folder = self.path("programs")
         os.makedirs(folder)
-        for name in NEEDED:
-            found = shutil.which(name)
-            if found:
-                os.symlink(found, os.path.join(folder, name))
+        for name in filter(shutil.which, NEEDED):
+            os.symlink(str(shutil.which(name)), os.path.join(folder, name))
         return folder
+
+
+class InstallTest(Sources, ScratchTest):
+    """Each test installs below a directory of its own. It only reads what those of its class
+    have."""
+
+    shared, newer = Sources(), [""]
+    program = source = version = plain_path = ""
+
+    @classmethod
+    def setUpClass(cls) -> None:
+        cls.shared.make()
+        cls.addClassCleanup(cls.shared.remove)
+        cls.program = cls.shared.copied_programs(find_program(), "built programs", "aide")
+        programs = (cls.program, lines_program_of(cls.program))
+        cls.newer = [cls.shared.make_newer(one) for one in programs]
+        cls.source = cls.shared.copy("source")
+        cls.version = read("VERSION").strip()
+        cls.plain_path = cls.shared.make_plain_path()
 
     def run_words(self, words: list[str], **more: Any) -> Answer:
         return run(words[0], words[1:], **more)
@@ -97,14 +97,10 @@ class InstallTest(ScratchTest):
         return self.run_words([*shell, script, *words], cwd=self.root, **more)
 
     def first(self, *names: str) -> str:
-        """A path of what is installed below the usual prefix. It is made once for the tests of this
-        process, which only read it."""
-        if not FIRST:
-            FIRST.append(tempfile.mkdtemp(prefix="aide-test-first-"))
-            atexit.register(shutil.rmtree, FIRST[0], True)
-            os.chmod(FIRST[0], 0o755)
-            self.installed(FIRST[0])
-        return os.path.join(FIRST[0], "usr", "local", *names)
+        """A path of what is installed below the usual prefix, once for the tests of a class."""
+        if not os.path.exists(self.shared.path("first")):
+            self.installed(self.shared.path("first"))
+        return self.shared.path("first", "usr", "local", *names)
 
     def installed(self, name: str, *words: str) -> dict[str, Any]:
         """Installs the program below a new folder, and gives what lies there."""
@@ -137,11 +133,8 @@ def files(found: dict[str, Any]) -> dict[str, Any]:
 
 
 def texts(found: dict[str, Any]) -> dict[str, str]:
-    result = {}
-    for path, (_, data) in sorted(files(found).items()):
-        if b"\0" not in data:
-            result[path] = data.decode(errors="replace")
-    return result
+    kept = sorted(files(found).items())
+    return {path: data.decode(errors="replace") for path, (_, data) in kept if b"\0" not in data}
 
 
 def rights() -> dict[str, Any]:

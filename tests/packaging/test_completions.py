@@ -125,9 +125,7 @@ class CompletionsTest(InstallTest):
         found = texts(tree(self.first()))
         zsh, fish = found[ZSH], found[FISH]
         named = zsh.split("\n")[0].split()
-        self.assertEqual(
-            named, ["#compdef", "aide-compare", "check_aide_compare"], "the first line for zsh"
-        )
+        self.assertEqual(named, ["#compdef", "aide-compare", "check_aide_compare"])
         for words in SUBCOMMANDS + HOSTS:
             wanted = options(self, words)
             case = re.search(r"^    '%s'\)\n(.*?);;$" % words, zsh, re.M | re.S)

@@ -91,7 +91,7 @@ class InstallingTest(InstallTest):
     def test_targets(self) -> None:
         wanted = wanted_modes(self.source)
         self.assertGreater(len(wanted), 150)
-        found = self.installed("first")
+        found = tree(self.first("../.."))
         prefix = "usr/local/"
         given = {path[len(prefix) :]: mode for path, (mode, _) in files(found).items()}
         self.assertEqual(given, wanted, "the modes of files")
