@@ -114,9 +114,8 @@ class InstalledTest(InstallTest):
         service = units["aide-compare.service"]
         self.assertEqual(re.findall(r"^ExecStart=(.*)$", service, re.M), [START])
         self.needs("systemd-analyze")
-        release = re.match(
-            r"systemd (\d+)", self.run_words(["systemd-analyze", "--version"]).output_text
-        )
+        printed = self.run_words(["systemd-analyze", "--version"]).output_text
+        release = re.match(r"systemd (\d+)", printed)
         if not release or int(release[1]) < 252:
             self.skipTest("not installed: systemd-analyze of systemd")
         for name, text in units.items():
@@ -133,17 +132,15 @@ class InstalledTest(InstallTest):
 
     def test_cron(self) -> None:
         """The jobs are silent, also where the tool ends with differences or is gone."""
-        folder, called = self.path("jobs"), self.path("called")
-        done = self.install("--prefix", folder, "--program", self.program)
-        self.assertEqual(done.status, 0, done)
-        daily = os.path.join(folder, DOCUMENTS, "examples/cron/aide-compare.cron.daily")
+        name, called = "examples/cron/aide-compare.cron.daily", self.path("called")
         os.makedirs(self.path("lib/aide"))
-        text = self.read(daily).replace(b"/var/lib/", os.fsencode(self.path("lib/")))
-        self.write(daily, text, 0o755)
-        tool = os.path.join(folder, "bin", "aide-compare")
+        text = self.read(self.first(DOCUMENTS, name)).replace(b"/usr/local", self.root.encode())
+        text = text.replace(b"/var/lib/", os.fsencode(self.path("lib/")))
+        daily = self.write("aide-compare.cron.daily", text, 0o755)
+        tool = self.path("bin/aide-compare")
         for status in (0, 5, 18):
             stub = f'#!/bin/sh\necho "$0 $*" >> "{called}"\nexit {status}\n'
-            self.write("jobs/bin/aide-compare", stub, 0o755)
+            self.write("bin/aide-compare", stub, 0o755)
             self.assertEqual(self.run_words([daily]), Answer(b"", b"", status))
         os.remove(tool)
         self.assertEqual(self.run_words([daily]), Answer(b"", b"", 0))
@@ -175,12 +172,10 @@ class InstalledTest(InstallTest):
         done = self.install("--destdir", self.path("unproved"), "--program", program)
         self.assertEqual(done.status, 0, done)
         done = self.run_words([self.path("unproved/usr/local/bin/aide-compare"), "--version"])
-        self.assertEqual(
-            (done.status, done.output_text.count("a proved build: no\n")), (0, 2), done
-        )
-        self.assertTrue(
-            done.output_text.startswith(f"aide-compare {self.version}, unproved\n"), done
-        )
+        count = done.output_text.count("a proved build: no\n")
+        self.assertEqual((done.status, count), (0, 2), done)
+        first = done.output_text.partition("\n")[0]
+        self.assertEqual(first, f"aide-compare {self.version}, unproved")
         script = os.path.join(self.source, "packaging", "make_package")
         done = self.run_words(["sh", script, "--output", self.path("packed"), "--program", program])
         self.assertEqual((done.status, "is not proved" in done.error_text), (1, True), done)
