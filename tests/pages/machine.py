@@ -8,6 +8,7 @@ import functools
 import glob
 import gzip
 import os
+import pathlib
 import re
 import shutil
 import subprocess
@@ -49,15 +50,21 @@ exec cat "ROOT/remote/$host/$file"
 
 
 @functools.lru_cache(maxsize=None)
-def installed(program: str) -> str:
-    """A directory into which packaging/install has put everything, and the byte code, made once for
-    the tests of this process."""
+def installed(program: str) -> tuple[str, str]:
+    """The root of every machine of this process, and what packaging/install puts there, with byte
+    code. Its texts name directories below the root. It is made once."""
     directory = tempfile.mkdtemp(prefix="aide-compare-installed-")
     atexit.register(shutil.rmtree, directory, True)
+    os.chmod(directory, 0o755)
     words = [os.path.join(TOP, "packaging", "install"), "--destdir", directory]
     subprocess.run([*words, "--program", program], check=True, stdout=subprocess.DEVNULL)
-    compile_modules(os.path.join(directory, "usr/local", LIBRARY))
-    return os.path.join(directory, "usr", "local")
+    root, local = os.path.join(directory, "root"), os.path.join(directory, "usr/local")
+    for path in pathlib.Path(local).rglob("*"):
+        if path.is_file() and not path.is_symlink() and b"\0" not in path.read_bytes():
+            text = NAMED.sub(lambda found: root + found[1], path.read_bytes().decode())
+            path.write_bytes(text.encode())
+    compile_modules(os.path.join(local, LIBRARY))
+    return root, local
 
 
 def example(name: str) -> bytes:
@@ -78,22 +85,15 @@ class MachineTest(ScratchTest):
         for name in ("/tmp", "/var/tmp"):
             os.chmod(self.path(name), 0o1777)
         apart.forget_user("_aide", self.root)
-        shutil.copytree(installed(self.program), self.path("/usr/local"), True, dirs_exist_ok=True)
-        tree = os.walk(self.path("/usr/local"))
-        paths = [os.path.join(directory, name) for directory, _, names in tree for name in names]
-        compile_modules(*filter(self.put_below, paths))
+        local = installed(self.program)[1]
+        shutil.copytree(local, self.path("/usr/local"), True, dirs_exist_ok=True)
         self.put_stubs()
 
-    def put_below(self, path: str) -> bool:
-        """An installed text names directories below the root. Returns whether a module changed."""
-        with open(path, "rb") as file:
-            text = file.read()
-        is_text = b"\0" not in text and not os.path.islink(path)
-        changed = self.below(text.decode()).encode() if is_text else text
-        if changed != text:
-            with open(path, "wb") as file:
-                file.write(changed)
-        return changed != text and path.endswith(".py")
+    def make(self, prefix: str = "aide-test-") -> None:
+        super().make(prefix)
+        made, self.root = self.root, installed(self.program)[0]
+        shutil.rmtree(self.root, ignore_errors=True)
+        os.rename(made, self.root)
 
     def put_stubs(self) -> None:
         """The commands of the machine that the tools call: what they are given is kept."""
@@ -132,7 +132,7 @@ class MachineTest(ScratchTest):
 
     def below(self, text: str) -> str:
         """A text with the directories that it names put below the root."""
-        return NAMED.sub(lambda found: self.root + found.group(1), text)
+        return NAMED.sub(lambda found: self.root + found[1], text)
 
     def above(self, text: str) -> str:
         """A text as it is on a machine where nothing lies below a root."""
