@@ -34,16 +34,18 @@ def layer_of(name: str) -> str:
     return name.partition(".")[0]
 
 
+def graph_of(found: dict[str, str]) -> dict[str, list[str]]:
+    """Which of these modules each of them imports."""
+    imports = {name: Module(path).imported for name, path in found.items()}
+    return {
+        name: [other for other in found if other != name and f"{PACKAGE}.{other}" in imported]
+        for name, imported in imports.items()
+    }
+
+
 class Layers(unittest.TestCase):
-    def setUp(self) -> None:
-        self.found = modules()
-        imports = {name: Module(path).imported for name, path in self.found.items()}
-        self.graph = {
-            name: [
-                other for other in self.found if other != name and f"{PACKAGE}.{other}" in imported
-            ]
-            for name, imported in imports.items()
-        }
+    found = modules()
+    graph = graph_of(found)
 
     def test_each_module_is_in_a_layer(self) -> None:
         self.assertEqual({layer_of(name) for name in self.found}, set(LAYERS))
