@@ -57,7 +57,7 @@ STATUSES = [
         NEW,
         f"zcat -f new.gz | {COMPARE} -A database_new=file:/dev/stdin",
     ),
-    ("an argument is not UTF-8", OLD, NEW, COMPARE + " -A \"$(printf 'report_url=\\377')\""),
+    ("of the programs is not UTF-8", OLD, NEW, COMPARE + " -A \"$(printf 'report_url=\\377')\""),
     ("a database has a fault", OLD, "no database\n", COMPARE),
 ]
 
