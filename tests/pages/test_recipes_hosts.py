@@ -136,7 +136,7 @@ class HostsTest(RecipesTest):
         line = self.example("fleet/aide-compare-fleet").splitlines()[-1]
         service = self.example("fleet/aide-compare-fleet.service")
         commands = [
-            re.findall(r"aide-compare (hosts [a-zA-Z0-9 -]+\b)", text) for text in (line, service)
+            re.findall(r"/bin/aide-compare (hosts [\w -]+\b)", text) for text in (line, service)
         ]
         self.assertEqual(commands[0], commands[1])
         self.assertEqual(len(commands[0]), 2)
