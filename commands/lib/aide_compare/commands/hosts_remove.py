@@ -20,7 +20,7 @@ HELP = Help(
 Takes HOST out of the file of hosts, and removes its baseline, its databases, its changes and its
 state. A new HOST of this name begins with aide-compare hosts add.""",
     epilog="""\
-Its key stays: ssh-keygen -R HOST, or its HostName in ~/.ssh/config, removes it from known_hosts.
+Its key stays: ssh-keygen -R HOST without a user, or its HostName, removes it from known_hosts.
 
 Status: 0 removed; 15 bad arguments; 18 there is no such host, or something could not be
 removed.""",
@@ -58,6 +58,6 @@ def main(arguments: Sequence[str]) -> int:
     if not request.is_quiet:
         tell(
             f"{host} is watched no longer. Its key stays:"
-            f" ssh-keygen -R {host} removes it from ~/.ssh/known_hosts, or that of its HostName"
+            f" ssh-keygen -R {host.rpartition('@')[2]}, or its HostName, removes it in known_hosts"
         )
     return Status.OK
