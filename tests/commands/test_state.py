@@ -125,22 +125,22 @@ class StatusTest(StateTest):
         self.assertLessEqual({"added", "time", "status", "left_out"}, numbers)
 
     def test_failed_start(self) -> None:
-        """A run that cannot begin leaves a state that says so, and not that of an earlier run. A
-        command that was typed wrongly changes nothing."""
+        """A run that cannot begin leaves a state that says so; a wrong command changes nothing."""
         for tool in ("aide-compare", "aide-compare mail --queue queue"):
-            for name, text in (("defaults", "--odd\n"), ("without", "no path\n")):
+            for name, text, status in (("defaults", "--odd\n", 15), ("without", "no path\n", 17)):
                 self.put()
                 self.write("etc/" + name, text)
                 answer = self.ask(tool, "old.db", "new.db")
                 state = self.state()
-                status = {"defaults": 15, "without": 17}[name]
-                found = (state["status"], answer.status)
-                self.assertEqual(found, (str(status), status), (tool, name, answer))
+                self.assertEqual((state["status"], answer.status), (str(status), status), answer)
                 self.assertIn("line 1", state["error"])
                 os.remove(self.path("etc/" + name))
         before = self.read("state")
         self.ask("aide-compare", "--odd", "old.db", "new.db")
         self.assertEqual(self.read("state"), before, "a wrong command changes no state")
+        self.write("etc/defaults", "--databases old.db new.db\n--state state\n")
+        self.refused(18, b"cannot open", "aide-compare", "--exclude-from", "none")
+        self.assertEqual(self.state()["status"], "18", "a state that the defaults name")
 
     def test_links(self) -> None:
         """The owner of the folder of the metrics puts links to a file of root in place of every

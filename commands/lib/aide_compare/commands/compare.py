@@ -274,7 +274,8 @@ def main(arguments: Sequence[str]) -> int:
     if own_request.user:
         give_up(own_request.user)
     try:
-        printer = Printer(with_defaults(given, arguments))
+        own_request = with_defaults(given, arguments)
+        printer = Printer(own_request)
         job = printer.job()
     except Fault as fault:
         keep_failure(own_request.state, fault)
