@@ -145,5 +145,5 @@ class OneTruthTest(ArchiveCase):
     def test_before_archive(self) -> None:
         """Without the pair of tonight nothing is trusted, and that is said."""
         answer = self.call("aide-compare")
-        self.assertIn(b"signed.db.old yet, so no trusted pair accounts for a change", answer.errors)
+        self.assertIn(b"signed.db.old yet, so it accounts for no change", answer.errors)
         self.assertRegex(answer.output, rb"\A1\d open ")

@@ -59,7 +59,7 @@ def comparison_defaults(
         note(f"there is no baseline {shown(named[0])}: as root, aide-compare setup makes it")
     missing = [path for path in defaults.get(TRUSTED.attribute, ()) if not os.path.lexists(path)]
     if missing:
-        note(f"there is no {shown(missing[0])} yet, so no trusted pair accounts for a change")
+        note(f"there is no {shown(missing[0])} yet, so it accounts for no change")
         del defaults[TRUSTED.attribute]
     return defaults
 
