@@ -128,7 +128,7 @@ left_out_schemes = codes "fd:" ∷ codes "http:" ∷ codes "https:" ∷ codes "f
 unfoldable pub is_left_out : List ℕ → Bool
 is_left_out v = same v (codes "stdin") || list_any (begins v) left_out_schemes
 
--- the absolute path after `file:`. `///p` means `/p`, and no other path begins with `//`.
+-- the path after `file:`. `///p` means `/p`, `//p` names a host, and another text has to begin with `/`.
 unfoldable pub path_after : List ℕ → Option (List ℕ)
 path_after v =
     if begins v (codes "///") then Some (drop 2 v)

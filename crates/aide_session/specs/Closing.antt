@@ -213,7 +213,7 @@ ClosingCause files wanted named (good_run options outcome) site out =
 -- section of entries. The outcome gives this number, and so do both texts if they are known. In such a run all openings
 -- of a side gave bytes of one SHA-256. A run with a fault opens no side more often than this, if both texts are known
 -- and sound. In a run that ends with the first fault of a text, no side is opened more than once. In a run that could
--- not open a side, the last opening of that side was refused.
+-- not open a side, the last opening of that side is not known to have succeeded.
 abbrev pub ClosingOpens : Files → Named → Closing → Course → Type 0
 ClosingOpens files named (good_run options outcome) course =
     OpensByOutcome options outcome course.opened_before course.opened_after
