@@ -192,8 +192,8 @@ class SetupTest(CommandTest):
         mode = os.stat(self.path("root/etc/cron.daily/aide-compare")).st_mode
         self.assertEqual(stat.S_IMODE(mode), 0o755, "a job that cron runs")
         self.write("root/run/systemd/system/keep", "")
-        said = b"compares each day, and so does the timer: remove it\n"
-        self.expect("cron's job and the timer", self.call(TOOL), 18, None, said)
+        said = b"compares too, and with systemd the timer does: remove it\n"
+        self.expect("cron's job, whatever the timer", self.call(TOOL), 18, None, said)
 
     def test_other_system(self) -> None:
         """A system of rpm: AIDE is root's, and its configuration and first command are others."""

@@ -165,7 +165,7 @@ class Machine:
         """With two jobs each mail would come twice. If AIDE's own makes what it wrote the baseline,
         there would never be a difference."""
         if self.has_timer and os.path.lexists(PATHS.cron_job):
-            text = f"{PATHS.cron_job} compares each day, and so does the timer: remove it"
+            text = f"{PATHS.cron_job} compares too, and with systemd the timer does: remove it"
             raise Fault(Status.DEVICE, text)
         if re.search(COPIES, text_there(PATHS.aides_job)):
             text = f"{PATHS.aides_job} makes new databases the baseline: write COPYNEWDB=no"
