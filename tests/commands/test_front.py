@@ -74,6 +74,8 @@ class FrontTest(CommandTest):
             ("diff old.db new.db", b"more than two databases: new.db\n"),
             ("--reprot old.db new.db", b"unrecognized arguments: --reprot\n"),
             ("a\033[31m", b"try: aide-compare compare --help\n"),
+            ("mail a", b"try: aide-compare mail --help\n"),
+            ("page --other", b"try: aide-compare page --help\n"),
         ):
             answer = self.refused(15, near, TOOL, *words.split(" "))
             self.assertNotIn(b"\033", answer.errors, words)

@@ -93,6 +93,14 @@ def tell(*lines: str) -> None:
     write_all(1, encoded("".join(f"{line}\n" for line in lines)))
 
 
+def usage_fault(text: str) -> Fault:
+    """A fault of the command line, with the help of the command that was called."""
+    name = _name
+    if name == "aide-compare":
+        name += " compare"
+    return Fault(Status.USAGE, text, f"try: {name} --help")
+
+
 def say(text: str) -> None:
     """Writes a line with the name of the command to standard error. If that cannot be written,
     nothing else changes."""

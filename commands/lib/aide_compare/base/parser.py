@@ -15,7 +15,7 @@ from contextlib import suppress
 from typing import Any, NamedTuple, NoReturn
 
 from aide_compare import VERSION
-from aide_compare.base.ending import Done, Fault, OSErrorAsFault, Status, write_all
+from aide_compare.base.ending import Done, Fault, OSErrorAsFault, Status, usage_fault, write_all
 from aide_compare.base.escapes import shown
 from aide_compare.base.files import lines_of
 from aide_compare.base.kinds import some_text
@@ -120,16 +120,11 @@ class Help(NamedTuple):
     epilog: str = ""
     usage: str = "%(prog)s [OPTIONS]"
 
-    def fault(self, text: str) -> Fault:
-        """A fault of the command line."""
-        return Fault(Status.USAGE, text, f"try: {self.name} --help")
-
 
 class Parser(argparse.ArgumentParser):
     """The parser of what a command is asked for. Faults have the status 15."""
 
     def __init__(self, asked: type[Asked], help: Help) -> None:
-        self.help = help
         super().__init__(
             prog=help.name,
             description=help.description,
@@ -168,7 +163,7 @@ class Parser(argparse.ArgumentParser):
         raise Done  # After --help and --version; faults are in `error`.
 
     def error(self, message: str) -> NoReturn:
-        raise self.help.fault(message.replace(OPERAND, ""))
+        raise usage_fault(message.replace(OPERAND, ""))
 
 
 def read(

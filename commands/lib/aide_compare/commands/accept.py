@@ -8,7 +8,7 @@ from collections.abc import Iterator, Sequence
 from contextlib import suppress
 from typing import NamedTuple
 
-from aide_compare.base.ending import Fault, Status, say, tell
+from aide_compare.base.ending import Fault, Status, say, tell, usage_fault
 from aide_compare.base.escapes import shown
 from aide_compare.base.files import blocks_of, nameless
 from aide_compare.base.options import KEEP_OPEN, MAX_SIZE, QUIET, SHA256, Asked, Operand, field
@@ -187,9 +187,9 @@ class AcceptOptions(Asked):
     def refuse_contradictions(self) -> None:
         """Refuses what means nothing without another word, or with it."""
         if len(self.files) not in (0, 2):
-            raise HELP.fault("name NEW and BASELINE, or none")
+            raise usage_fault("name NEW and BASELINE, or none")
         if not self.digest and (self.is_quiet or not can_ask()):
-            raise HELP.fault("give --sha256 DIGEST, or run this on a terminal to be asked")
+            raise usage_fault("give --sha256 DIGEST, or run this on a terminal to be asked")
 
 
 def title_line(request: AcceptRequest, accepted: Accepted) -> str:

@@ -6,7 +6,7 @@ import os
 from collections.abc import Container, Iterable, Sequence
 
 from aide_compare.base.database import ABSENT, refuse_terminal
-from aide_compare.base.ending import Fault, Status, say
+from aide_compare.base.ending import Fault, Status, say, usage_fault
 from aide_compare.base.escapes import shown
 from aide_compare.base.files import PRIVATE, copy_file, in_memory, trusted_text
 from aide_compare.base.options import MAX_SIZE, QUIET, USER, Asked, Operand, field, option
@@ -198,7 +198,7 @@ def upgrades_of(old_copy: Copy, new_copy: Copy, request: ArchiveRequest) -> Upgr
 def request_of(arguments: Sequence[str]) -> ArchiveRequest:
     request = read(ArchiveRequest, arguments, HELP)
     if len(request.databases) not in (0, 2) or not request.directories:
-        raise HELP.fault("name --from, and both databases, OLD and NEW, or none")
+        raise usage_fault("name --from, and both databases, OLD and NEW, or none")
     databases = request.databases or machines_databases(arguments)
     output = request.output
     if output and os.path.realpath(output) in [os.path.realpath(path) for path in databases]:

@@ -5,7 +5,7 @@ import os
 from collections.abc import Sequence
 from typing import TYPE_CHECKING
 
-from aide_compare.base.ending import Fault, Status
+from aide_compare.base.ending import Fault, Status, usage_fault
 from aide_compare.base.escapes import shown
 from aide_compare.base.kinds import pattern
 from aide_compare.base.options import (
@@ -130,11 +130,11 @@ def checked(given: Given) -> CompareRequest:
     request = filled(CompareRequest, given, {})
     databases = request.databases
     if len(databases) == 1:
-        raise HELP.fault("name both databases, OLD and NEW, or none")
+        raise usage_fault("name both databases, OLD and NEW, or none")
     if len(databases) > 2:
-        raise HELP.fault(f"more than two databases: {shown(databases[-1], 200)}")
+        raise usage_fault(f"more than two databases: {shown(databases[-1], 200)}")
     if request.configuration and not databases:
-        raise HELP.fault("--config names no databases: name OLD and NEW")
+        raise usage_fault("--config names no databases: name OLD and NEW")
     return request
 
 

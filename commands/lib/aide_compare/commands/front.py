@@ -137,9 +137,7 @@ def main(arguments: Sequence[str]) -> int:
 
 
 def run_command(name: str, arguments: Sequence[str]) -> int:
-    if name == "compare":
-        called("aide-compare")
-    else:
+    if name != "compare":
         called(f"aide-compare {name}")
     if name in SHORT:
         return loaded("compare")([*SHORT[name], *arguments])

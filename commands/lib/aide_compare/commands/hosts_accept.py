@@ -3,7 +3,7 @@ from __future__ import annotations
 
 from collections.abc import Sequence
 
-from aide_compare.base.ending import Fault, Status
+from aide_compare.base.ending import Fault, Status, usage_fault
 from aide_compare.base.files import is_missing
 from aide_compare.base.options import (
     KEEP_OPEN,
@@ -56,7 +56,7 @@ class HostAcceptRequest(HostsAsked):
 def main(arguments: Sequence[str]) -> int:
     request = read(HostAcceptRequest, arguments, HELP)
     if not request.digest:
-        raise HELP.fault("give --sha256")
+        raise usage_fault("give --sha256")
     host = check_name(request.host)
     if is_missing(f"{request.store}/hosts/{host}/{NEW_FILE}"):
         text = f"{host}: nothing was fetched yet; see aide-compare hosts add --help"

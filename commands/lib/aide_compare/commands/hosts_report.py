@@ -6,7 +6,7 @@ import os
 from collections.abc import Iterable, Iterator, Sequence
 from functools import partial
 
-from aide_compare.base.ending import Fault, say, why_of, write_blocks
+from aide_compare.base.ending import Fault, say, usage_fault, why_of, write_blocks
 from aide_compare.base.escapes import encoded
 from aide_compare.base.options import (
     ATTACH_PAGE,
@@ -170,11 +170,11 @@ def as_line(text: str) -> bytes:
 def request_of(arguments: Sequence[str]) -> ReportRequest:
     request = read(ReportRequest, arguments, HELP)
     if request.format and request.address:
-        raise HELP.fault("--format does not go with --to")
+        raise usage_fault("--format does not go with --to")
     is_of_mail = request.has_page or request.weekly or request.mail_seconds != MAIL_TIME.default
     if is_of_mail and not request.address:
         text = "--attach-page, --weekly and --mail-time go with --to"
-        raise HELP.fault(text)
+        raise usage_fault(text)
     return request
 
 

@@ -5,7 +5,7 @@ from __future__ import annotations
 import os
 from collections.abc import Sequence
 
-from aide_compare.base.ending import Done, Fault, Status, tell, why_of, write_all
+from aide_compare.base.ending import Done, Fault, Status, tell, usage_fault, why_of, write_all
 from aide_compare.base.escapes import guarded, shown
 from aide_compare.base.files import is_name
 from aide_compare.base.replacement import replace
@@ -219,9 +219,9 @@ def request_of(arguments: Sequence[str]) -> StatusRequest:
     request = read(StatusRequest, arguments, HELP, defaults)
     is_conditional = request.is_quiet or request.max_age != RESULT_AGE.default
     if is_conditional and request.format not in ("text", "nagios"):
-        raise HELP.fault("only --format text and --format nagios have --quiet and --max-age")
+        raise usage_fault("only --format text and --format nagios have --quiet and --max-age")
     if request.output != STDOUT and request.format != "prometheus":
-        raise HELP.fault("only --format prometheus has an OUTPUT")
+        raise usage_fault("only --format prometheus has an OUTPUT")
     return request.but(is_daily=request.state == defaults.get(STATE.attribute, DAILY))
 
 
