@@ -302,6 +302,8 @@ class SetupTest(CommandTest):
         self.write(DATABASES + "aide.db", OLD)
         self.expect("another user", self.call(TOOL, before=AS_NOBODY), 15, b"", b"only root")
         self.write("root/etc/default/aide", "COPYNEWDB='ifnochange'\n")
-        self.expect("AIDE copies", self.call(TOOL, "--check"), 18, b"", b"write COPYNEWDB=no\n")
+        self.expect("AIDE copies", self.call(TOOL), 18, None, b"write COPYNEWDB=no\n")
+        missing = [b"missing: the owner of ", b" write COPYNEWDB=no\n", b"2 things are missing\n"]
+        self.expect("and --check goes on", self.call(TOOL, "--check"), 18, missing, b"")
         os.remove(aide)
         self.expect("no AIDE", self.call(TOOL), 18, b"", b"apt install aide-common\n")

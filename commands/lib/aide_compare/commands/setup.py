@@ -9,7 +9,7 @@ import stat
 from collections.abc import Callable, Iterator, Sequence
 from contextlib import suppress
 from functools import partial
-from typing import NamedTuple
+from typing import NamedTuple, NoReturn
 
 from aide_compare.base.ending import Fault, Status, tell
 from aide_compare.base.escapes import shown
@@ -80,6 +80,11 @@ class Step(NamedTuple):
     make: Callable[[], None]
 
 
+def refuse(text: str) -> NoReturn:
+    """Makes nothing: an administrator has to."""
+    raise Fault(Status.DEVICE, text)
+
+
 class Machine:
     """The machine that is made ready, as far as the steps have to know it."""
 
@@ -104,10 +109,7 @@ class Machine:
 
     def owns(self, path: str) -> bool:
         """Whether what is by a path is the user's; False if there is nothing."""
-        try:
-            return os.lstat(path).st_uid == self.user.pw_uid
-        except FileNotFoundError:
-            return False
+        return os.path.lexists(path) and os.lstat(path).st_uid == self.user.pw_uid
 
     def make_baseline(self) -> None:
         """Lets AIDE write the first database. On Debian AIDE has a command for that; elsewhere what
@@ -161,15 +163,13 @@ class Machine:
             for state in ("is-enabled", "is-active")
         )
 
-    def refuse_other_job(self) -> None:
-        """With two jobs each mail would come twice. If AIDE's own makes what it wrote the baseline,
-        there would never be a difference."""
+    def other_jobs(self) -> Iterator[str]:
+        """Yields what only an administrator can mend. With two jobs each mail would come twice. If
+        AIDE's own makes what it wrote the baseline, there would never be a difference."""
         if self.has_timer and os.path.lexists(PATHS.cron_job):
-            text = f"{PATHS.cron_job} compares too, and with systemd the timer does: remove it"
-            raise Fault(Status.DEVICE, text)
+            yield f"{PATHS.cron_job} compares too, and with systemd the timer does: remove it"
         if re.search(COPIES, text_there(PATHS.aides_job)):
-            text = f"{PATHS.aides_job} makes new databases the baseline: write COPYNEWDB=no"
-            raise Fault(Status.DEVICE, text)
+            yield f"{PATHS.aides_job} makes new databases the baseline: write COPYNEWDB=no"
 
     def reader(self) -> str:
         """Who gets the mails."""
@@ -227,7 +227,8 @@ class Machine:
         if self.is_debian and self.has_timer:
             title = f"upgrades to signed packages are silent: {PATHS.signed}"
             yield Step(title, os.path.lexists(PATHS.signed), make_signed)
-        self.refuse_other_job()
+        for text in self.other_jobs():
+            yield Step(text, False, partial(refuse, text))
         yield self.job()
         if not (self.request.no_mail or self.request.is_check):
             yield Step(f"a test mail to {self.reader()}", False, self.send_test)
