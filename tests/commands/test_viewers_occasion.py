@@ -102,6 +102,7 @@ class OccasionTest(CommandTest):
             (DEVICE, b"cannot open", ["--json=lines", "/no"]),
         ):
             self.refused(status, said, "aide-compare", OLD, *more, state="state")
+        self.refused(USAGE, b"--json is given twice", "aide-compare json", "--json=lines", OLD, NEW)
         self.assertEqual(self.read("lines"), lines, "nothing was compared")
 
     def test_streams(self) -> None:

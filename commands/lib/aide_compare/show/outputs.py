@@ -36,9 +36,8 @@ def page(comparison: Comparison, judged: Judged | None) -> Iterable[bytes]:
 
 
 def row(name: str, what: str, make: Maker) -> OutputRow:
-    return OutputRow(
-        Option(name, f"{what} to FILE, - for standard output", "FILE", some_text), make
-    )
+    words = f"{what} to FILE, - for standard output"
+    return OutputRow(Option(name, words, "FILE", some_text, is_single=True), make)
 
 
 OUTPUTS = (
