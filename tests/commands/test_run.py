@@ -76,6 +76,8 @@ class RunTest(CommandTest):
         ):
             answer = self.call(TOOL, *words, text=text)
             self.assertEqual((answer.status, answer.output), (7, MINIMAL), (words, answer))
+        brief = self.call("aide-compare", "old.db", "new.db").output
+        self.answered(7, brief, None, "aide-compare", f"-A# {option}", "old.db", "new.db")
         answer = self.call(TOOL, "-", "-", text=OLD)
         self.expect("standard input twice", answer, 15, b"", b"only one database")
         answer = self.run_tool("-A", "database_in=file:/no")

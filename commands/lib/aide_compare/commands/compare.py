@@ -2,6 +2,7 @@
 from __future__ import annotations
 
 import os
+import re
 from collections.abc import Iterable, Sequence
 from contextlib import suppress
 from typing import TYPE_CHECKING
@@ -190,6 +191,7 @@ BRIEF = "brief"
 ONLY = "only"
 REPORT = "report"
 NOTHING = ""
+REPORT_OPTION = r"(?m)^[ \t]*report_"
 
 
 def form_of(request: PrintRequest) -> str:
@@ -200,7 +202,7 @@ def form_of(request: PrintRequest) -> str:
         return REPORT
     if STDOUT in request.places:
         return NOTHING
-    if "report_" in request.after:
+    if re.search(REPORT_OPTION, request.after):
         return REPORT
     return BRIEF
 
