@@ -141,6 +141,9 @@ class StatusTest(StateTest):
         self.write("etc/defaults", "--databases old.db new.db\n--state state\n")
         self.refused(18, b"cannot open", "aide-compare", "--exclude-from", "none")
         self.assertEqual(self.state()["status"], "18", "a state that the defaults name")
+        self.write("etc/defaults", "--databases old.db gone.db\n--state state\n")
+        self.refused(18, b"cannot open the new", "aide-compare", "./old.db", "./gone.db")
+        self.assertIn("the new database", self.state()["error"], "they name both")
 
     def test_links(self) -> None:
         """The owner of the folder of the metrics puts links to a file of root in place of every

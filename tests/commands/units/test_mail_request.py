@@ -23,7 +23,7 @@ class MailRequestTest(ModuleTest):
     def asks(self, words: str, **wanted: Any) -> MailRequest:
         """What some words ask for. Of a mail they ask for nothing else that no words ask for."""
         request = request_of(words.split())
-        usual = request_of(["o", "n"])
+        usual = request_of(["x", "y"])
         own = (MailRequest.rows().keys() - CompareRequest.rows().keys()) | {"notes"}
         for name in own | wanted.keys():
             value = wanted.get(name, vars(usual)[name])

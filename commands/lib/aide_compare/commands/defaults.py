@@ -35,11 +35,11 @@ def machines_databases(words: Sequence[str]) -> Sequence[str]:
     return list(named)
 
 
-def are_same(databases: Sequence[str], named: Sequence[str]) -> bool:
-    """Whether databases are those that the defaults name, by whatever names."""
+def is_same(path: str, named: str) -> bool:
+    """Whether two names are those of one file, which may be missing."""
     with suppress(OSError):
-        return bool(named) and all(map(os.path.samefile, databases, named))
-    return False
+        return os.path.samefile(path, named)
+    return os.path.realpath(path) == os.path.realpath(named)
 
 
 def comparison_defaults(
@@ -52,7 +52,8 @@ def comparison_defaults(
     that the words of the command line name, if they name some."""
     defaults = defaults_for((DATABASES, *options), words)
     named = defaults.get(DATABASES.attribute, ())
-    if databases and not are_same(databases, named):
+    # They may be those that the defaults name, by whatever names.
+    if databases and not (named and all(map(is_same, databases, named))):
         names = {option.attribute for option in MACHINES_DEFAULTS}
         return {name: value for name, value in defaults.items() if name not in names}
     if named and is_missing(named[0]):
