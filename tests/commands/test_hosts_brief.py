@@ -13,6 +13,7 @@ from .units.calls import misused
 from .sandbox import CommandTest, END, NEW, OLD, sha256
 from .test_fleet import COUNTS, DIFFERS, Fleet
 from .test_hosts_report import Hosts, database, four_hosts, line
+from .test_without import list_database
 from .viewers.pages import data_in
 
 ROOM = 100000
@@ -201,6 +202,10 @@ class HostsQuietTest(CommandTest):
         said = fleet.compare("-q", self.hosts)
         self.assertEqual(said, Answer(b"", b"", 0), "the usual list")
         self.assertEqual(fleet.compare("--no-defaults", self.hosts).status, 4)
+        own = list_database(os.fsencode(self.path("etc/without")), b"sha256", b"A" * 43 + b"=")
+        self.assertEqual(self.prepare(own, own).compare("-q", self.hosts).status, 0)
+        self.assertNotIn(b"has changed", self.read("store/hosts/h01/errors"), "a host's own list")
+        fleet = self.prepare(idle(5), idle(9))
         os.remove(self.path("etc/without"))
         self.write("etc/defaults", "--exclude /var/log/a\n--trusted none none\n--max-age 1s\n")
         said = fleet.compare("-q", self.hosts)

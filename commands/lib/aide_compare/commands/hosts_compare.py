@@ -90,6 +90,8 @@ def request_of(arguments: Sequence[str]) -> HostsRequest:
     exclusions = exclusions_of(request.exclude_from, request.exclude, not request.no_defaults)
     if exclusions:
         refuse_faulty(exclusions)
+        # What a host has at the path of such a file is not the list of this machine.
+        exclusions = exclusions._replace(files={})
     return request.but(exclusions=exclusions, trusted={}, max_kept=MAX_KEPT)
 
 
