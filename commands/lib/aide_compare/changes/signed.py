@@ -159,7 +159,9 @@ class Catalog:
     dpkg's own name of a package has its architecture only if there may be several. Otherwise it is
     of the machine's, which most of its packages with such a name have, or of all."""
 
-    def __init__(self, machine: Collection[str], owns: Collection[str], files: Collection[str]):
+    def __init__(
+        self, machine: Collection[str], owns: Collection[str], files: Collection[str]
+    ) -> None:
         counts = Counter(own.partition(":")[2] for own in machine if ":" in own)
         self.architectures = {*counts, ALL}
         self.native = {ALL, *(name for name, _ in counts.most_common(1))}

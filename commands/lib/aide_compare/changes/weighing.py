@@ -79,5 +79,8 @@ def is_content(fields: Fields, is_link: bool) -> bool:
     an entry that came that is all."""
     if fields["kind"] != "changed":
         return True
-    is_one = re.fullmatch(TARGET if is_link else CONTENT, fields["summary"])
+    form = CONTENT
+    if is_link:
+        form = TARGET
+    is_one = re.fullmatch(form, fields["summary"])
     return bool(is_one) and fields["old"].keys() == fields["new"].keys()

@@ -216,4 +216,6 @@ def owner_of(old: Side, new: Side) -> int | None:
     known = [owner for owner in owners if owner is not None]
     if ROOT in known:
         return ROOT
-    return min(known) if known and None not in owners else None
+    if len(known) < len(owners):
+        return None
+    return min(known, default=None)

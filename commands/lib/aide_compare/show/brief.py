@@ -23,7 +23,9 @@ def silent_lines(counts: Counts) -> list[str]:
     parts = [f"{counts.of(each)} {each.value}" for each in silent if counts.of(each)]
     if counts.left_out:
         parts.append(counts.left_out_words())
-    return [f"Silent: {', '.join(parts)}"] if parts else []
+    if not parts:
+        return []
+    return [f"Silent: {', '.join(parts)}"]
 
 
 def names_lines(title: str, names: Sequence[str], room: Room) -> list[str]:

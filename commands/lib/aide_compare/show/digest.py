@@ -123,8 +123,10 @@ def in_directory(key: bytes, width: int) -> str:
 
 def digest(table: Table, room: Room, names: Names) -> Iterator[Part]:
     """The parts of the open changes that there is room for."""
-    hosts = SIZES_OF_HOSTS, room.first, room.named
-    parts = list(table.ask(*hosts) if room.is_of_hosts else table.ask(SIZES))
+    if room.is_of_hosts:
+        parts = list(table.ask(SIZES_OF_HOSTS, room.first, room.named))
+    else:
+        parts = list(table.ask(SIZES))
     sizes = [size for _, _, size, _ in parts]
     shares = [min(size, room.shares[level][owners]) for level, owners, size, _ in parts]
     height = room.height or sum(shares)
