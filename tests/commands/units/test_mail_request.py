@@ -83,7 +83,7 @@ class MailRequestTest(ModuleTest):
         """Only options that are the same for all may be among the defaults."""
         for line in (
             *("--user root", "--queue q", "--json x", "--only /x", "-c x", "o.db", "--"),
-            *("--attach-page yes", "--max-age", "--odd", "--to"),
+            *("--attach-page yes", "--max-age", "--odd", "--to", "--state a\0b"),
         ):
             self.write("defaults", b"# x\n\n--max-size 1G\n%s\n" % line.encode())
             options = (*COMPARISON_DEFAULTS, *MAIL_DEFAULTS)

@@ -38,7 +38,7 @@ Given = dict[str, Any]
 
 OPERAND = "\0"  # Before a word that follows --. No argument has this byte.
 DIRECTORY = "/etc/aide-compare"
-DEFAULTS_LINE = r"(?s)(--[a-z-]+)(?:(?:=|[ \t]+)(.*))?"
+DEFAULTS_LINE = r"(--[a-z-]+)(?:(?:=|[ \t]+)([^\0]*))?"
 MAY_BE_DEFAULTS = {
     option.name: option for option in (*COMPARISON_DEFAULTS, *MAIL_DEFAULTS, *CHECK_DEFAULTS)
 }
