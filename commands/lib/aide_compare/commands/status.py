@@ -237,6 +237,6 @@ def check(arguments: Sequence[str]) -> int:
         return main(["--format", "nagios", *arguments])
     except Done:
         return Level.UNKNOWN
-    except (Fault, MemoryError, OSError) as error:
+    except Exception as error:
         tell(Answer(Level.UNKNOWN, why_of(error)).line())
         return Level.UNKNOWN
