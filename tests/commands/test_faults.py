@@ -65,6 +65,12 @@ class FaultsTest(CommandTest):
         for new in ("large.db", "large.db.gz"):
             refusal: list[bytes] = [b"the new database " + new.encode(), b"too large"]
             self.refused(18, refusal, TOOL, "old.db", new, before=SMALL_FILES % (20000, 20000))
+        lines = b"".join(b"/b%d 36 100644 1\n" % number for number in range(1000, 1400))
+        self.write("many.db", NEW.replace(b"/c ", lines + b"/c "))
+        few = {"before": SMALL_FILES % (20000, 20000)}
+        self.refused(18, b"cannot keep the changes in ", TOOL, "old.db", "many.db", **few)
+        said = b"cannot keep an output in "
+        self.refused(18, said, "aide-compare page", "old.db", "new.db", **few)
 
     def test_full_disk(self) -> None:
         small = self.path("small")
@@ -73,7 +79,7 @@ class FaultsTest(CommandTest):
         with self.mounted("small", "-t", "tmpfs", "-o", "size=32k", "none") as is_small:
             if not is_small:
                 self.skipTest("nothing can be mounted here")
-            told = f"the new database large.db to {small}: No space left on device".encode()
+            told = f"database large.db to {small} (name another directory by TMPDIR): No ".encode()
             words = (TOOL, "old.db", "large.db")
             self.refused(18, told, *words, state="state", environment={"TMPDIR": small})
             self.assertEqual(os.listdir(small), [], "nothing is left on a full disk")

@@ -76,10 +76,10 @@ def write_all(descriptor: int, data: bytes | bytearray | memoryview) -> None:
             raise OSError(errno.EIO, "the device takes no bytes")
 
 
-def write_blocks(descriptor: int, parts: Iterable[bytes]) -> None:
+def write_blocks(descriptor: int, parts: Iterable[bytes], words: str = "cannot write") -> None:
     """Writes many parts, some at a time, past Python's own buffers."""
     waiting = bytearray()
-    with OSErrorAsFault("cannot write"):
+    with OSErrorAsFault(words):
         for part in parts:
             waiting += part
             if len(waiting) >= MAX_WAITING:

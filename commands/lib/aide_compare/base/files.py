@@ -20,7 +20,6 @@ BLOCK = 1 << 18
 MAX_TRUSTED_LINES = 10000
 MAX_TRUSTED_BYTES = 1 << 22
 TEMPORARY = ".aide-compare-"
-NAME_ANOTHER = " (name another directory by TMPDIR)"
 PRIVATE = 0o600
 # Where a caller's open files have names.
 OPENED = ("/dev/fd/", "/proc/self/fd/")
@@ -189,6 +188,11 @@ def private_directory() -> str:
     return os.environ.get("TMPDIR") or "/var/tmp"
 
 
+def private_place() -> str:
+    """The same for people."""
+    return f"{shown(private_directory())} (name another directory by TMPDIR)"
+
+
 def new_file(directory: int, name: str, more: int = 0) -> tuple[int, str]:
     """The descriptor and the name of a new file in an open directory, of the caller only. It has
     this name only where the file system does not know files without one, and otherwise ""."""
@@ -210,9 +214,8 @@ def unlink(name: str, directory: int) -> None:
 def nameless(path: str = "") -> int:
     """A private file that has no name, open for reading and writing: in this directory, or in that
     of private files. Once it is made, nothing is left of it however the command ends."""
-    path = path or private_directory()
-    with OSErrorAsFault(f"cannot make a private file in {shown(path)}{NAME_ANOTHER}"):
-        with closed_after(os.open(path, PLACE)) as directory:
+    with OSErrorAsFault(f"cannot make a private file in {private_place()}"):
+        with closed_after(os.open(path or private_directory(), PLACE)) as directory:
             descriptor, name = new_file(directory, random_name(), os.O_EXCL)
             if name:
                 os.unlink(name, dir_fd=directory)

@@ -7,8 +7,7 @@ from contextlib import contextmanager
 from typing import Any
 
 from aide_compare.base.ending import Fault, Status
-from aide_compare.base.escapes import shown
-from aide_compare.base.files import NAME_ANOTHER, private_directory
+from aide_compare.base.files import private_place
 
 PAGE = 4096
 # So many bytes are in memory, and so many at most are in the file. More are a Fault.
@@ -42,8 +41,7 @@ class Rows:
         try:
             yield
         except self.error as error:
-            where = shown(private_directory())
-            text = f"cannot keep rows in {where}{NAME_ANOTHER}: {error}"
+            text = f"cannot keep rows in {private_place()}: {error}"
             raise Fault(Status.DEVICE, text) from None
 
     def do(self, statement: str, *values: object) -> None:

@@ -9,7 +9,7 @@ from typing import TYPE_CHECKING
 
 from aide_compare.base.ending import Fault, write_blocks
 from aide_compare.base.escapes import encoded, shown
-from aide_compare.base.files import blocks_of, nameless
+from aide_compare.base.files import blocks_of, nameless, private_place
 from aide_compare.base.replacement import ANYBODY_READS
 from aide_compare.base.rights import become_owner, give_up
 from aide_compare.base.words import date_of, words_of_side
@@ -74,7 +74,7 @@ class Row:
             self.blocks = [b"".join(blocks)]
         else:
             target = nameless()
-            write_blocks(target, blocks)
+            write_blocks(target, blocks, f"cannot keep an output in {private_place()}")
             self.blocks = blocks_of(target)
 
 

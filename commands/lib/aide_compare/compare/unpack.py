@@ -18,7 +18,7 @@ from aide_compare.base.files import (
     given_descriptor,
     nameless,
     open_regular,
-    private_directory,
+    private_place,
 )
 from aide_compare.base.directories import closed_after, failure
 from aide_compare.base.words import words_of_side
@@ -140,7 +140,7 @@ def copy_opened(opened: Opened, limit: int) -> Copy:
         target = nameless()
         try:
             for block in _unpacked(opened, limit):
-                with OSErrorAsFault(f"cannot copy {opened.words} to {shown(private_directory())}"):
+                with OSErrorAsFault(f"cannot copy {opened.words} to {private_place()}"):
                     write_all(target, block)
         except BaseException:
             os.close(target)

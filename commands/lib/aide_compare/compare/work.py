@@ -6,10 +6,11 @@ import json
 import os
 import time
 from collections.abc import Iterator, Sequence
+from functools import partial
 
-from aide_compare.base.ending import Fault, Status, write_all
+from aide_compare.base.ending import Fault, OSErrorAsFault, Status, write_all
 from aide_compare.base.escapes import shown
-from aide_compare.base.files import nameless
+from aide_compare.base.files import nameless, private_place
 from aide_compare.base.program import LINES, Answer, Drain, Tail, find_installed
 from aide_compare.base.words import SIDES, TRUSTED_SIDES, age_in_words, counted, words_of_side
 from aide_compare.compare.asking import Settings, ask_for_lines, odd_answer, settings_of
@@ -78,12 +79,17 @@ def refusal_of(comparison: Comparison, answer: Answer) -> Fault:
 def read_lines(comparison: Comparison) -> Lines:
     """The lines of aide_lines, of which those beyond a limit are only counted."""
     request = comparison.request
-    target = nameless() if request.target is None else request.target
-    drain = Drain(max(request.max_report, MIN_LINES), lambda data: write_all(target, data))
+    target = request.target
+    words = "cannot keep the changes"
+    if target is None:
+        target = nameless()
+        words += f" in {private_place()}"
+    drain = Drain(max(request.max_report, MIN_LINES), partial(write_all, target))
     tail = Tail(END_BYTES)
 
     def take(block: bytes) -> None:
-        drain.take(block)
+        with OSErrorAsFault(words):
+            drain.take(block)
         tail.take(block)
 
     exclusions = request.exclusions
