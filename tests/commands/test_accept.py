@@ -90,6 +90,8 @@ class AcceptTest(AcceptingTest):
         said = b"cannot write the baseline base/aide.db: aide.db.previous is a directory\n"
         self.refuses(18, said)
         self.refuses(18, said)
+        words = ("--sha256", sha256(NEW), "new.db", "x" * 252)
+        self.refused(18, b"cannot write the baseline xxx", "aide-compare accept", *words)
 
     def test_full_disk(self) -> None:
         """A baseline that cannot be replaced for want of room stays, alone."""

@@ -127,8 +127,8 @@ class Baseline:
 
     def settle(self) -> None:
         """Ends what a run has left that was killed while the names changed."""
-        if any(self._identity(name) for name in (self.part, self.mark, self.spare)):
-            with OSErrorAsFault(self.words):
+        with OSErrorAsFault(self.words):
+            if any(self._identity(name) for name in (self.part, self.mark, self.spare)):
                 self._settle()
 
     def _replace(self, source: int) -> os.stat_result:
