@@ -161,8 +161,7 @@ Main = Callable[[Sequence[str]], int]
 def status_of(work: Callable[[], int]) -> int:
     """The status with which work ends. What ends it otherwise is said."""
     try:
-        status = work()
-        return status if isinstance(status, int) else Status.DEVICE
+        return work()
     except Done:
         return Status.OK
     except ReaderGone as gone:
