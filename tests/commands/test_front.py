@@ -75,6 +75,7 @@ class FrontTest(CommandTest):
             ("--reprot old.db new.db", b"unrecognized arguments: --reprot\n"),
             ("a\033[31m", b"try: aide-compare compare --help\n"),
             ("mail a", b"try: aide-compare mail --help\n"),
+            ("-A \udcff old.db new.db", b"-A/--after: needs a text in UTF-8: \\377\n"),
             ("page --other", b"try: aide-compare page --help\n"),
         ):
             answer = self.refused(15, near, TOOL, *words.split(" "))

@@ -73,6 +73,8 @@ def _bounded_size(text: str) -> int:
 
 
 some_text = matching("(?s).+", "a value that is not empty", str)
+# A byte that is not UTF-8 is one of these letters. The proved program has no words for it.
+text_in_utf8 = matching("[^\udc80-\udcff]*", "a text in UTF-8", str)
 file_path = matching("(?s)(?!-$).+", "a file", str)
 address = matching(r"(?!-)[ -~]+", "an address", str)
 size = matching(

@@ -17,6 +17,7 @@ from aide_compare.base.kinds import (
     pattern,
     size,
     some_text,
+    text_in_utf8,
 )
 
 DAYS = ("Mon", "Tue", "Wed", "Thu", "Fri", "Sat", "Sun")
@@ -117,7 +118,7 @@ AFTER = Option(
     "--after",
     "lines to read after the configuration, as report_level=summary",
     metavar="TEXT",
-    kind=str,
+    kind=text_in_utf8,
     letter="-A",
     is_single=True,
 )
