@@ -129,8 +129,8 @@ class CommandTest(ScratchTest):
         self.replaced: dict[str, str] = {}
         # The records of packages and the administrator's directory are those of the test, never
         # those of this machine.
-        self.set_names("changes.packages", DPKG=self.path("dpkg"))
-        self.after_import("changes.packages", "Dpkg.__init__.__defaults__ = (DPKG,)\n")
+        self.set_names("changes.recorded", DPKG=self.path("dpkg"))
+        self.after_import("changes.recorded", "Dpkg.__init__.__defaults__ = (DPKG,)\n")
         self.set_names("base.parser", DIRECTORY=self.path("etc"))
         for name, text in (("old", OLD), ("new", NEW)):
             self.write(name + ".db", text)

@@ -186,7 +186,7 @@ class RecordedTest(CommandTest):
         """What rpm says of its packages, by a program in rpm's place."""
         os.makedirs(self.path("rpmdb"), exist_ok=True)
         self.set_names(
-            "changes.packages", RPM=self.path("stubs/rpm"), RPM_DATABASES=(self.path("rpmdb"),)
+            "changes.recorded", RPM=self.path("stubs/rpm"), RPM_DATABASES=(self.path("rpmdb"),)
         )
         host = upgraded(TWO)
         host.packages = []

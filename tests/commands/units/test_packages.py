@@ -13,10 +13,9 @@ from tests.commands.units.calls import ModuleTest
 
 from aide_compare.base.ending import Fault
 from aide_compare.base.files import BLOCK
-from aide_compare.changes import packages, signed
+from aide_compare.changes import recorded, signed
 from aide_compare.changes.applied import members_of
-from aide_compare.changes.packages import Dpkg, Members
-from aide_compare.changes.recorded import Matcher
+from aide_compare.changes.recorded import Dpkg, Matcher, Members
 from aide_compare.changes.table import Table
 from aide_compare.lines.change import Change, Value, Values
 from aide_compare.show import brief, digest
@@ -76,14 +75,19 @@ class PackagesTest(ModuleTest):
         found = {"tool 2": {b"/usr/bin/tool\n": "c81e728d9d4c2f636f067f89cc14862c"}}
         bounds = {"MAX_BYTES": size, "MAX_STATUS": status}
         for name, most in {**bounds, "MAX_LISTS": 2, "BLOCK": 48}.items():
-            with mock.patch.object(packages, name, most):
+            with mock.patch.object(recorded, name, most):
                 self.expect(f"found, {name} {most}", self.members(), found)
-        with mock.patch.object(packages, "MAX_LISTS", 1):
+        with mock.patch.object(recorded, "MAX_LISTS", 1):
             self.gives({}, self.members)
         for name, most in bounds.items():
-            with mock.patch.object(packages, name, most - 1):
+            with mock.patch.object(recorded, name, most - 1):
                 self.assertRaisesRegex(Fault, "are too large", self.members)
         os.unlink(self.path("dpkg/info/tool.md5sums"))
+        self.gives({"tool 2": {b"/usr/bin/tool\n": ""}}, self.members)
+
+    def test_digests(self) -> None:
+        """What a package has of a file is a digest, and nothing where a link could point to."""
+        self.write("dpkg/info/tool.md5sums", b">%031d  usr/bin/tool\n" % 0)
         self.gives({"tool 2": {b"/usr/bin/tool\n": ""}}, self.members)
 
     def test_names(self) -> None:
@@ -99,7 +103,7 @@ FILE = LINK._replace(type="File")
 
 class RecordedTest(ModuleTest):
     def test_names(self) -> None:
-        targets = Matcher(Table(), lambda *_: iter([LINK])).targets
+        targets = Matcher(Table(), lambda _: LINK).targets
         rows: list[tuple[Value, bytes]] = [("c", b"/a/c"), (b"../../c", b"/c"), ("//c/.", b"/c")]
         for link, target in rows:
             self.gives({target + b"\n"}, targets, LINK._replace(new={"Lname": link}))
@@ -128,7 +132,7 @@ class RecordedTest(ModuleTest):
             ("only listed", strong, "", 11, False),
         ]
         for label, new, of, room, fits in rows:
-            matcher = Matcher(Table(), lambda *_: iter([LINK]))
+            matcher = Matcher(Table(), lambda _: LINK)
             self.expect("the room", matcher.remaining, 2 << 30)
             matcher.remaining = BLOCK + room
             self.expect(label, matcher.has(FILE._replace(path=path, new=new), of, {}), fits)

@@ -48,6 +48,7 @@ ORDER_OF_PART = "hosts, rank, kind = 'added', place"
 ORDER = f"level, owners, {ORDER_OF_PART}"
 LISTED = "standing = 'open'"
 RECORDED = "standing = 'recorded'"
+RECORD = f"update changes set {RECORDED}, package = ? where {LISTED} and place = ?"
 # What is recorded, package by package.
 BY_PACKAGE = f"count(*) over (partition by package) desc, package, {ORDER}"
 
@@ -111,11 +112,9 @@ class Table(Rows):
         for line_at, line_size, standing, level, package in self.ask(question, *values):
             yield line_at, line_size, Marks(standing, SEVERITIES[level], package)
 
-    def record(self, place: int, package: str) -> None:
-        """Notes that the records of a package have a change."""
-        self.do(
-            "update changes set standing = 'recorded', package = ? where place = ?", package, place
-        )
+    def record(self, packages: Iterable[tuple[str, int]]) -> None:
+        """Notes that packages have the changes at some places, each the first that is named."""
+        self.do_all(RECORD, packages)
 
     def forget_records(self) -> None:
         """Leaves each change open."""

@@ -57,7 +57,7 @@ def brief(judged: Judged, room: Room, warnings: Sequence[str] = (), height: int 
 
     def lines_of(places: Iterable[int]) -> Iterator[str]:
         for place in places:
-            (change,) = judged.read("place = ?", place)
+            change = judged.read(place)
             yield entry_line(change, entry_words(change), "  ", room.width)
 
     lines = head

@@ -4,7 +4,7 @@ from __future__ import annotations
 from aide_compare.base.ending import why_of
 from aide_compare.base.words import TRUSTED_SIDES
 from aide_compare.changes.judged import Judged
-from aide_compare.changes.packages import records_of_host
+from aide_compare.changes.recorded import records_of_host
 from aide_compare.compare.comparison import Comparison
 
 
