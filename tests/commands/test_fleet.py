@@ -161,6 +161,19 @@ class FleetTest(CommandTest):
             left = set(os.listdir(self.path("store/hosts/endless")))
             self.assertEqual(left - {"aide.db", "lock", "not-fetched"}, set(), "nothing of it")
 
+    def test_full(self) -> None:
+        """No state says on a full disk that all is well because it was so before."""
+        self.fleet.put("good1", OLD)
+        self.assertEqual(self.fleet.compare_one("good1").status, 0)
+        full = ["sh", "-c", 'ulimit -f 0; exec "$@"', "sh"]
+        hosts = self.path("one-host")
+        said = self.fleet.call(COMPARE, hosts, before=full)
+        self.assertIn("good1 18 what it sent was not written: is the disk full?", said.output_text)
+        self.assertIn("good1: its state cannot be written", said.error_text)
+        said = self.fleet.call("aide-compare hosts report", hosts)
+        self.assertIn("good1: its state is missing\n", said.output_text)
+        self.assertEqual(said.status, 18, said)
+
     def test_slow(self) -> None:
         for host in ("slow", "silent"):
             self.fleet.put(host, OLD)

@@ -42,7 +42,7 @@ def host_of(name: str, status: int, error: str, state: State | None = None) -> H
 def host_in(directory: HostDirectory, max_age: int) -> Host:
     """The host by its state. One that is too old says nothing of today."""
     if is_missing(directory.state_path):
-        raise directory.fault("was never compared")
+        raise directory.fault("its state is missing")
     state = read_state(directory.state_path)
     if state.age is None:
         raise directory.fault("was compared in the future; is the clock of this host right?")

@@ -139,12 +139,14 @@ class HostDirectory:
 
     def not_compared(self, text: str, status: int = Status.DEVICE) -> None:
         """The state says at once that nothing was compared, so that no check shows an older
-        result."""
+        result. One that cannot be written, as on a full disk, is removed."""
         state = State(int(status), int(time.time()), error=text)
         try:
             replace(self.state_path, state.text(), what="the state")
         except (Fault, OSError) as fault:
             say(f"{self.host}: its state cannot be written: {fault}")
+            with suppress(OSError):
+                os.unlink(self.state_path)
 
 
 def make_private(path: str) -> None:
