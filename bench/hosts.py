@@ -145,7 +145,7 @@ def report(root: str, form: list[str], args: argparse.Namespace) -> None:
         usage = usage_of(root, [*command, *form, f"{root}/hosts"], target)
         size = os.fstat(target.fileno()).st_size
         target.seek(0)
-        pattern = re.compile('{"record":"change"|(added|removed|changed) on')
+        pattern = re.compile('{"record":"change"|(added|removed|changed) ')
         changes = sum(pattern.match(line) is not None for line in target)
     print(
         f"aide-compare hosts report {' '.join(form)}: {usage.clock:.1f} s,"
