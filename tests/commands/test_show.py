@@ -38,6 +38,7 @@ class ShowTest(CommandTest):
         wanted = [b"open medium removed Directory: /b", b"open medium changed File: /c"]
         self.assertEqual(heads, wanted)
         self.refused(15, b"--only", "aide-compare", "--only", "c", "old.db", "new.db")
+        self.refused(15, b"--only is given twice", TOOL, "/b", "--only", "/c", "old.db", "new.db")
 
     def test_values(self) -> None:
         """What changed, as people read it; what did not is left out."""

@@ -124,9 +124,7 @@ def paragraph(state: State, max_age: int) -> list[str]:
     """The lines for people: what was found, when, between which databases, and what to do now."""
     lines = [f"Last comparison: {time_text(state, max_age)}"]
     if state.status > 7:
-        lines.append(f"It failed with status {state.status}:")
-        lines.append(f"  {state.error}")
-        return lines
+        return [*lines, f"It failed with status {state.status}:", f"  {state.error}"]
     text = result_text(state)
     lines.append(f"{text[:1].upper()}{text[1:]}.")
     lines.append(database_line("Old", state.old, state.old_written))
