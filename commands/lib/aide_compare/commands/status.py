@@ -56,7 +56,7 @@ ENTRIES = {
     "added_entries": "Entries that are only in the new database.",
     "removed_entries": "Entries that are only in the old database.",
     "changed_entries": "Entries that both databases have and that differ.",
-    "end_time_seconds": "When the last run ended, in seconds since 1970.",
+    "end_time_seconds": "When the databases were compared, or that failed, in seconds since 1970.",
 }
 CHANGES = {
     "same": "Changes of times, inode, blocks, the size of a directory and digests that one side"
