@@ -49,8 +49,7 @@ Times are as in 90s, 15m, 26h or 3d; a plain number is seconds. Sizes are in byt
 --user names another one.
 
 Status: 0 nothing to read; 1 added, 2 removed, 4 changed, and sums of these, by the changes that are
-not silent; above 7 no comparison. With --report that of aide-compare-program(8), by all
-changes.""",
+not silent; above 7 a failure. With --report that of aide-compare-program(8), by all changes.""",
 )
 
 

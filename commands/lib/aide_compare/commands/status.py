@@ -51,8 +51,7 @@ FORMATS = ("text", "json", "prometheus", "nagios")
 PREFIX = "aide_compare_"
 # What Prometheus is told of each standing and of the entries.
 ENTRIES = {
-    "status": "Sum of 1 added, 2 removed and 4 changed, of what is not silent; above 7 nothing was"
-    " compared.",
+    "status": "Sum of 1 added, 2 removed and 4 changed, of what is not silent; above 7 a failure.",
     "added_entries": "Entries that are only in the new database.",
     "removed_entries": "Entries that are only in the old database.",
     "changed_entries": "Entries that both databases have and that differ.",
