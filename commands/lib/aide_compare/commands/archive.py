@@ -201,8 +201,10 @@ def request_of(arguments: Sequence[str]) -> ArchiveRequest:
         raise usage_fault("name --from, and both databases, OLD and NEW, or none")
     databases = request.databases or machines_databases(arguments)
     output = request.output
-    if output and os.path.realpath(output) in [os.path.realpath(path) for path in databases]:
-        raise Fault(Status.USAGE, "--output is one of the databases, which would be replaced")
+    read_from = {os.path.realpath(path) for path in databases}
+    if output and read_from & {os.path.realpath(output), os.path.realpath(f"{output}.old")}:
+        why = "--output is one of the databases, or FILE.old is, which would be replaced"
+        raise Fault(Status.USAGE, why)
     keyrings = [os.path.abspath(path) for path in request.keyrings or [DEBIANS_KEYRING]]
     return request.but(databases=databases, keyrings=keyrings)
 
