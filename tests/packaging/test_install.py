@@ -160,18 +160,23 @@ class InstallingTest(InstallTest):
         self.assertEqual((done.status, "nothing is installed" in done.error_text), (1, True), done)
 
     def test_interrupted(self) -> None:
-        """An installation that stopped half-way can be removed."""
+        """An installation that stopped half-way can be removed. A signal but SIGKILL leaves no
+        private directory either."""
         source, folder = self.copy("damaged"), self.path("half")
         shutil.copy(os.path.join(source, "VERSION"), os.path.join(source, "man", "zzz.1"))
-        # This copy of the script stops before its last file, as if it was killed there.
-        killed = b"put() {\n    case $* in */zzz.1) kill -9 $$ ;; esac\n"
-        script = self.read("damaged/packaging/install").replace(b"put() {\n", killed)
-        self.write("damaged/packaging/install", script)
-        room = dict(os.environ, TMPDIR=self.root)  # Its private directory is left.
-        done = self.run_install(folder, source=source, env=room)
-        self.assertNotEqual(done.status, 0)
-        self.assertGreater(len(files(tree(folder))), 10)
-        self.removes_all(folder)
+        script = self.read("damaged/packaging/install")
+        for signal in ("KILL", "HUP", "INT", "QUIT", "PIPE", "TERM"):
+            # This copy of the script stops before its last file, as if it was killed there.
+            killed = f"put() {{\n    case $* in */zzz.1) kill -{signal} $$ ;; esac\n".encode()
+            self.write("damaged/packaging/install", script.replace(b"put() {\n", killed))
+            room = self.path("room " + signal)
+            os.mkdir(room)
+            done = self.run_install(folder, source=source, env=dict(os.environ, TMPDIR=room))
+            self.assertNotEqual(done.status, 0, signal)
+            self.assertGreater(len(files(tree(folder))), 10, signal)
+            self.assertEqual(bool(os.listdir(room)), signal == "KILL", signal)
+            self.removes_all(folder)
+            shutil.rmtree(folder, ignore_errors=True)
 
     def test_unwritable(self) -> None:
         """What cannot be written is refused before anything is, or the program is built."""
