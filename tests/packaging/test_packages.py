@@ -76,7 +76,7 @@ def try_unpacking(trial: InstallTest, tarball: str) -> None:
     """What the help says of the tarball, word for word, with another folder for /usr/local."""
     script = os.path.join(trial.source, "packaging", "make_package")
     help_text = trial.run_words(["sh", script, "--help"]).output_text
-    lines = re.findall(r"^ +(?:and to remove it: )?(tar .*)$", help_text, re.M)
+    lines = re.findall(r"^ +(?:and to remove its files: )?(tar .*)$", help_text, re.M)
     folder = trial.path("unpacked")
     os.makedirs(os.path.join(folder, "bin"))
     os.chmod(os.path.join(folder, "bin"), 0o2775)
