@@ -173,6 +173,6 @@ class TrustedTest(LinesProgramTest):
     def test_random_sessions(self) -> None:
         """Random sessions, in which each account has to come often."""
         try_sessions(self.beside, new_seed(), range(SESSIONS), 2, self, make_session_beside)
-        if SESSIONS >= 1000:
+        if SESSIONS >= 500:  # In fewer, what comes seldom may be missing by chance.
             for account, count in self.accounts.items():
-                self.assertGreater(count, SESSIONS // 8, account)
+                self.assertGreater(count, SESSIONS // 50, account)
