@@ -12,7 +12,7 @@ import os
 import shutil
 import subprocess
 import time
-from typing import Callable
+from typing import Any, Callable
 
 from tests.commands.made_up import MORE_ACL, Night, acl_of
 from tests.commands.sandbox import CommandTest
@@ -41,6 +41,8 @@ KEPT = b"/var/cache/apt/archives/"
 # What apt writes before the names of the indexes of a suite.
 SITE = "archive.example.org_dists_stable_"
 INDEXES = ("InRelease", "main_binary-amd64_Packages")
+APPLIED = b"applied: 21 files\n"
+MISSING = b"tool: the file of 2, the newest"
 
 
 def sums_of(version: str) -> bytes:
@@ -265,3 +267,14 @@ class ArchiveCase(CommandTest):
         super().setUp()
         self.needs(*PROGRAMS)
         self.place = upgraded(self)
+
+    def applied(self, *words: str, told: bytes = APPLIED, **more: Any) -> Answer:
+        """What the command makes of the packages."""
+        answer = self.place.ask(*words, **more)
+        self.expect(f"{words} {more}", answer, 0, errors=[told])
+        return answer
+
+    def not_made(self, told: bytes, status: int = 18, *words: str, **more: Any) -> None:
+        """Nothing is made of them."""
+        answer = self.place.ask(*words, **more)
+        self.expect(f"{words} {more}", answer, status, output=b"", errors=[told])
