@@ -7,14 +7,15 @@ import gzip
 import os
 import re
 import shutil
-import subprocess
-import sys
 import unittest
 
-from tests.commands.sandbox import compiled_commands
+from tests.commands.units.calls import helped
 from tests.lib.scratch import TOP, read
 from tests.pages.blocks import MANUALS, Block, blocks_of, plain
 from tests.pages.machine import HOSTS, STATE, STORE, MachineTest
+
+from aide_compare.base.options import COMPARISON_DEFAULTS, MAIL_DEFAULTS
+from aide_compare.commands.status import check
 
 HEAD = "@@begin_db\n@@db_spec name perm size atime inode\n"
 # One entry is removed, one added, and two are changed: /c can be written by everybody, of /d only
@@ -24,11 +25,7 @@ NEW = HEAD + "/a 100644 5 MA== 4\n/c 100646 10 MA== 2\n/d 100600 1 MQ== 5\n@@end
 FRESH = ("/tmp", "/root", "/srv/aide", "/etc/aide-compare", "/var/lib/aide", STORE)
 # Their messages and options are those of the program, which tests/pages/test_manual.py tries.
 OF_THE_PROGRAM = ("man/aide-compare-program.8", "man/aide-compare.conf.5", "man/aide-compare.1")
-# check_aide_compare is the command under its other name.
-CHECK = (
-    "import sys; sys.path.insert(0, sys.argv[1]); from aide_compare.commands.status import check; "
-    "check(sys.argv[2:])"
-)
+CHECK = "check_aide_compare"
 # What stands for any text in a message.
 ANY = re.compile(r"\b[A-Z]+\b|\b\d+\b|\.\.\.")
 # What a module says of itself is no message; and where one literal goes on in the next line.
@@ -185,21 +182,17 @@ class BlocksTest(PagesTest):
 def commands_of(page: str) -> list[list[str]]:
     """The words of each command that a page is about."""
     name = os.path.basename(page).rpartition(".")[0]
-    if name == "check_aide_compare":
-        return [[sys.executable, "-IS", "-c", CHECK, os.path.join(compiled_commands(), "lib")]]
+    if name == CHECK:
+        return [[CHECK]]
     if name == "aide-compare-hosts":
-        return [[front(), "hosts", one] for one in "add list remove compare accept report".split()]
-    return [[front(), *name.split("-", 3)[2:]]]
-
-
-def front() -> str:
-    return os.path.join(compiled_commands(), "bin", "aide-compare")
+        return [["hosts", one] for one in "add list remove compare accept report".split()]
+    return [name.split("-", 3)[2:]]
 
 
 def listed_by(command: list[str]) -> set[str]:
     """The options that `--help` of a command lists."""
-    done = subprocess.run([*command, "--help"], stdout=subprocess.PIPE, check=True, text=True)
-    lines = re.findall(r"^ {1,8}(-\S.*?)(?:  .*)?$", done.stdout, re.M)
+    text = helped("--help", main=check) if command == [CHECK] else helped(*command, "--help")
+    lines = re.findall(r"^ {1,8}(-\S.*?)(?:  .*)?$", text.decode(), re.M)
     return {name for line in lines for name in re.findall(r"(?:^|, )(--?[A-Za-z][\w-]*)", line)}
 
 
@@ -230,29 +223,22 @@ class WordsTest(unittest.TestCase):
             entries = re.findall(r"^\.It (Fl .*)$", read(page).replace("\\\n", ""), re.M)
             named = {name for entry in entries for name in named_in(entry)} - in_each
             listed = set().union(*map(listed_by, commands_of(page))) - in_each
-            more = listed_by([front(), *ALSO[page]]) if page in ALSO else set()
+            more = listed_by(ALSO[page]) if page in ALSO else set()
             with self.subTest(page):
                 self.assertGreater(len(listed), 1)
                 is_comparison = os.path.basename(page) in COMPARISONS
-                others = listed_by([front(), "compare"]) if is_comparison else set()
+                others = listed_by(["compare"]) if is_comparison else set()
                 self.assertFalse(listed - others - named, "the page has no entry")
                 self.assertFalse(named - listed - more, "no command has it")
                 self.assertFalse({name for name in listed - tried if len(name) > 2}, "untested")
 
     def test_defaults(self) -> None:
         """The pages of a comparison and its mail name the options of the administrator's file."""
-        code = (
-            "import sys; sys.path.insert(0, sys.argv[1]); from aide_compare.base import options; "
-            "print(*(option.name for option in getattr(options, sys.argv[2])))"
-        )
         for name, table, begin, end in (
-            ("compare", "COMPARISON_DEFAULTS", "\ntakes\n", "from there"),
-            ("mail", "MAIL_DEFAULTS", "also come\n", "\nis without"),
+            ("compare", COMPARISON_DEFAULTS, "\ntakes\n", "from there"),
+            ("mail", MAIL_DEFAULTS, "also come\n", "\nis without"),
         ):
-            library = os.path.join(compiled_commands(), "lib")
-            words = [sys.executable, "-IS", "-c", code, library, table]
-            done = subprocess.run(words, stdout=subprocess.PIPE, check=True, text=True)
             page = read(f"man/aide-compare-{name}.1").partition(".Sh DEFAULTS\n")[2]
             text = page.partition(begin)[2].partition(end)[0]
             with self.subTest(name):
-                self.assertEqual(named_in(text), set(done.stdout.split()))
+                self.assertEqual(named_in(text), {option.name for option in table})

@@ -2,7 +2,7 @@
 from __future__ import annotations
 
 import os
-from collections.abc import Callable
+from collections.abc import Callable, Sequence
 from contextlib import suppress
 from typing import Any
 from unittest import mock
@@ -29,10 +29,10 @@ def misused(scratch: ScratchTest, tool: str, *words: str) -> Any:
         return outcome(front.main, [*tool.split(" ")[1:], *words])
 
 
-def helped(*words: str) -> bytes:
+def helped(*words: str, main: Callable[[Sequence[str]], object] = front.main) -> bytes:
     """What is printed for words that ask for the help of a command."""
     with mock.patch.object(parser, "write_all") as written, suppress(Done):
-        front.main(words)
+        main(words)
     return bytes(written.call_args[0][1])
 
 

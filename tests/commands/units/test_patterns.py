@@ -6,7 +6,7 @@ import subprocess
 import sys
 import unittest
 
-from tests.commands.units import TOP
+from tests.lib.scratch import TOP
 
 from aide_compare.base.paths import Pattern
 

@@ -7,7 +7,7 @@ import os
 import subprocess
 import sys
 
-from tests.commands.units import TOP
+from tests.lib.scratch import TOP
 from tests.commands.units.calls import ModuleTest
 
 from aide_compare.base import ending, escapes, kinds, words
