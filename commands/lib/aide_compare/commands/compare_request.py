@@ -111,6 +111,7 @@ class PrintRequest(CompareRequest):
         "print only the changes of these paths, as '/etc/**', with their values",
         "PATTERN",
         kind=pattern,
+        is_single=True,
     )
 
     @property
