@@ -307,3 +307,6 @@ class SetupTest(CommandTest):
         self.expect("and --check goes on", self.call(TOOL, "--check"), 18, missing, b"")
         os.remove(aide)
         self.expect("no AIDE", self.call(TOOL), 18, b"", b"apt install aide-common\n")
+        self.after_import("commands.setup", "os.path.lexists = lambda path: True\n")
+        missing = [b"missing: the owner of ", b"aide.db.new: ", b"things are missing\n"]
+        self.expect("what goes just then", self.call(TOOL, "--check"), 18, missing, b"")

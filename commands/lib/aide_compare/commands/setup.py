@@ -108,8 +108,10 @@ class Machine:
                 self.needed += [f"--exclude {path}" for path in own]
 
     def owns(self, path: str) -> bool:
-        """Whether what is by a path is the user's; False if there is nothing."""
-        return os.path.lexists(path) and os.lstat(path).st_uid == self.user.pw_uid
+        """Whether what is by a path is the user's; False if there is nothing to see."""
+        with suppress(OSError):
+            return os.lstat(path).st_uid == self.user.pw_uid
+        return False
 
     def make_baseline(self) -> None:
         """Lets AIDE write the first database. On Debian AIDE has a command for that; elsewhere what
@@ -187,8 +189,7 @@ class Machine:
         mail = f"Then {reader} gets a mail if a change is not silent, or if nothing was compared."
         lines = ["", done, job, mail, "To compare now: aide-compare"]
         if not self.request.no_mail:
-            test = f"A test mail went to {reader}: look now whether it came."
-            lines += ["", test]
+            lines += ["", f"A test mail went to {reader}: look now whether it came."]
             if reader == "root":
                 lines.append(EXIM)
         return lines
