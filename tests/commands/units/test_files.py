@@ -139,7 +139,7 @@ class FilesTest(PlacesTest):
         os.waitpid(child, 0)
 
     def test_programs(self) -> None:
-        old, new = files.nameless(self.root), files.nameless(self.root)
+        old, new = files.nameless(), files.nameless()
         self.addCleanup(os.close, old)
         self.addCleanup(os.close, new)
         os.write(old, b"old\n")

@@ -87,8 +87,8 @@ class PackagesTest(ModuleTest):
 
     def test_digests(self) -> None:
         """What a package has of a file is a digest, and nothing where a link could point to."""
-        for digest, of in ((b">" + b"0" * 31, ""), (b"0" * 32, "0" * 32)):
-            self.write("dpkg/info/tool.md5sums", digest + b"  usr/bin/tool")  # Without its end.
+        for text, of in ((b">" + b"0" * 31, ""), (b"0" * 32, "0" * 32)):
+            self.write("dpkg/info/tool.md5sums", text + b"  usr/bin/tool")  # Without its end.
             self.gives({"tool 2": {b"/usr/bin/tool\n": of}}, self.members)
 
     def test_names(self) -> None:

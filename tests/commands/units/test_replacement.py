@@ -40,7 +40,7 @@ def begun(path: str) -> None:
 def copied_over(path: str, text: bytes) -> tuple[bytes, int]:
     """Replaces a file by the bytes of an open one: its text and owner then."""
     with closed_after(files.in_memory(text)) as source:
-        replacement.replace_by_copy(path, source, 0o600, "the file")
+        replacement.replace_by_copy(path, source)
     return files.read_file(path, 100), os.stat(path).st_uid
 
 
@@ -185,7 +185,8 @@ class ReplacementTest(PlacesTest):
         # As on a file system that does not know files without a name.
         with mock.patch.object(os, "O_TMPFILE", os.O_DIRECTORY):
             self.check_new_files("new/named", False)
-        self.fails(18, "TMPDIR", files.nameless, self.path("none"))
+        with mock.patch.dict(os.environ, TMPDIR=self.path("none")):
+            self.fails(18, "none (name another directory by TMPDIR): No such", files.nameless)
 
     def check_new_files(self, name: str, is_nameless: bool) -> None:
         """A private file has no name. A new one takes the place of a former one, or is refused
@@ -198,7 +199,8 @@ class ReplacementTest(PlacesTest):
         ):
             self.expect(f"{name}: {text!r}, {over}", put(path, text, over), (kept, ["it"]))
         os.remove(path + "/it")
-        descriptor = files.nameless(path)
+        with mock.patch.dict(os.environ, TMPDIR=path):
+            descriptor = files.nameless()
         found = os.fstat(descriptor)
         os.close(descriptor)
         got = (stat.S_IMODE(found.st_mode), found.st_nlink, os.listdir(path))

@@ -65,9 +65,9 @@ class TableTest(ModuleTest):
         self.assertEqual(listed, [place for place in places if place[0] == "1" or place[-1] < "5"])
 
 
-def put(path: str, text: bytes, mode: int = 0o600) -> None:
+def put(path: str, text: bytes) -> None:
     with closed_after(in_memory(text)) as descriptor:
-        outputs.open_output(path, "it", mode)(blocks_of(descriptor))
+        outputs.open_output(path, "it")(blocks_of(descriptor))
 
 
 class OutputsTest(PlacesTest):
@@ -90,10 +90,10 @@ class OutputsTest(PlacesTest):
 
     def test_files(self) -> None:
         """A file is made, and no directory for it."""
-        for mode in (0o600, 0o644):
-            self.gives(None, put, self.path("it"), b"text", mode)
-            self.assertEqual(self.read("it"), b"text")
-            self.fails(18, "No such file", put, self.path("none/it"), b"x", mode)
+        self.gives(None, put, self.path("it"), b"text")
+        self.assertEqual(self.read("it"), b"text")
+        self.assertEqual(os.stat(self.path("it")).st_mode, 0o100600)
+        self.fails(18, "No such file", put, self.path("none/it"), b"x")
         self.assertFalse(os.path.exists(self.path("none")))
 
     @mock.patch("aide_compare.lines.reader.MANY", 1)

@@ -211,11 +211,11 @@ def unlink(name: str, directory: int) -> None:
         os.unlink(name, dir_fd=directory)
 
 
-def nameless(path: str = "") -> int:
-    """A private file that has no name, open for reading and writing: in this directory, or in that
-    of private files. Once it is made, nothing is left of it however the command ends."""
+def nameless() -> int:
+    """A private file that has no name, open for reading and writing. Once it is made, nothing is
+    left of it however the command ends."""
     with OSErrorAsFault(f"cannot make a private file in {private_place()}"):
-        with closed_after(os.open(path or private_directory(), PLACE)) as directory:
+        with closed_after(os.open(private_directory(), PLACE)) as directory:
             descriptor, name = new_file(directory, random_name(), os.O_EXCL)
             if name:
                 os.unlink(name, dir_fd=directory)
@@ -235,7 +235,7 @@ def in_memory(data: bytes) -> int:
     return descriptor
 
 
-def is_locked(descriptor: int, deadline: float = 0.0, how: int = fcntl.LOCK_EX) -> bool:
+def is_locked(descriptor: int, deadline: float, how: int = fcntl.LOCK_EX) -> bool:
     """Whether this process has the lock of a file by then. It does not wait for ever: another user
     could keep the lock."""
     while True:

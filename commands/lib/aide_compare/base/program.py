@@ -16,6 +16,7 @@ DESCRIPTORS = {"old": 3, "new": 4, "trusted_old": 6, "trusted_new": 7}
 CONFIGURATION = 5
 DATABASES = "database_in=file:/proc/self/fd/3\ndatabase_new=file:/proc/self/fd/4"
 MAX_ERRORS = 1 << 20
+END_BYTES = 1 << 12  # The last line has nothing but digests, columns and counts.
 # The proved programs that write reports, and lines of JSON or what a configuration says; and the
 # command with all subcommands.
 PROGRAM = "libexec/aide-compare/aide"
@@ -40,15 +41,13 @@ class Answer(NamedTuple):
 
 
 class Tail:
-    """Takes blocks, and keeps their last bytes, at most `limit`: of lines, the last one says what
-    was counted."""
+    """Takes blocks, and keeps their last bytes: of lines, the last one says what was counted."""
 
-    def __init__(self, limit: int) -> None:
-        self.limit = limit
+    def __init__(self) -> None:
         self.data = b""
 
     def take(self, block: bytes) -> None:
-        self.data = (self.data + block)[-self.limit :]
+        self.data = (self.data + block)[-END_BYTES:]
 
     def last_line(self) -> bytes:
         """The last line; nothing if it has no end."""

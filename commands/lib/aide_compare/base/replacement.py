@@ -14,6 +14,7 @@ from aide_compare.base.directories import open_directory
 from aide_compare.base.ending import Fault, Status, why_of, write_all
 from aide_compare.base.escapes import shown
 from aide_compare.base.files import (
+    PRIVATE,
     TEMPORARY,
     blocks_of,
     new_file,
@@ -115,8 +116,7 @@ class Replacement:
         self.directory.close()
 
     def _fault(self, error: BaseException) -> Fault:
-        text = f"cannot write {self.what} {shown(self.path)}: {why_of(error)}"
-        return Fault(Status.DEVICE, text)
+        return Fault(Status.DEVICE, f"cannot write {self.what} {shown(self.path)}: {why_of(error)}")
 
     def _do(self, work: Callable[[Directory], None]) -> None:
         """Does the work where nobody else can interfere."""
@@ -166,9 +166,9 @@ def replace(
         file.commit([data])
 
 
-def replace_by_copy(path: str, source: int, mode: int, what: str) -> None:
-    """The same by the bytes of an open file. No directory is made for it."""
-    with closing(Replacement(path, mode, what, makes_directory=False)) as file:
+def replace_by_copy(path: str, source: int) -> None:
+    """The same by the bytes of an open file, a database. No directory is made for it."""
+    with closing(Replacement(path, PRIVATE, "the database", makes_directory=False)) as file:
         file.commit(blocks_of(source))
 
 

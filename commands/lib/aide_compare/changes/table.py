@@ -104,12 +104,12 @@ class Table(Rows):
             yield path_of(key), kind
 
     def marks(
-        self, condition: str = "true", *values: object, order: str = ORDER
+        self, condition: str = "true", order: str = ORDER
     ) -> Iterator[tuple[int, int, Marks]]:
         """Yields where lines begin, their sizes and their marks, in an order."""
         columns = "line_at, line_size, standing, level, package"
         question = f"select {columns} from changes where {condition} order by {order}"
-        for line_at, line_size, standing, level, package in self.ask(question, *values):
+        for line_at, line_size, standing, level, package in self.ask(question):
             yield line_at, line_size, Marks(standing, SEVERITIES[level], package)
 
     def record(self, packages: Iterable[tuple[str, int]]) -> None:

@@ -8,7 +8,7 @@ from collections.abc import Container, Iterable, Sequence
 from aide_compare.base.database import ABSENT, refuse_terminal
 from aide_compare.base.ending import Fault, Status, say, usage_fault
 from aide_compare.base.escapes import shown
-from aide_compare.base.files import PRIVATE, copy_file, in_memory, trusted_text
+from aide_compare.base.files import copy_file, in_memory, trusted_text
 from aide_compare.base.options import MAX_SIZE, QUIET, USER, Asked, Operand, field, option
 from aide_compare.base.parser import Help, read
 from aide_compare.base.paths import key_of_path, path_of, unescaped
@@ -222,13 +222,13 @@ def main(arguments: Sequence[str]) -> int:
     old = copy_database("old", request.databases[0], request.max_size)
     if request.output:  # However this ends from here on, that of another night is gone.
         for path in (request.output, f"{request.output}.old"):
-            replace_by_copy(path, old.fd, PRIVATE, "the database")
+            replace_by_copy(path, old.fd)
     new = copy_database("new", request.databases[1], request.max_size)
     refuse_unsound(new, old)
     upgrades = upgrades_of(old, new, request)
     made = upgraded(old, new, upgrades)
     if request.output:
-        replace_by_copy(request.output, made, PRIVATE, "the database")
+        replace_by_copy(request.output, made)
     if not request.is_quiet:
         say(f"applied: {counted(len(upgrades.files), 'file')}")
     if not request.output:

@@ -3,7 +3,7 @@ of what is left out."""
 from __future__ import annotations
 
 import os
-from collections.abc import Callable, Iterable, Sequence
+from collections.abc import Callable, Sequence
 from contextlib import suppress
 from typing import TYPE_CHECKING
 
@@ -15,7 +15,6 @@ from aide_compare.base.options import (
     DATABASES,
     MACHINES_DEFAULTS,
     TRUSTED,
-    Option,
 )
 from aide_compare.base.parser import Defaults, administrators_file, defaults_for
 
@@ -45,12 +44,11 @@ def is_same(path: str, named: str) -> bool:
 def comparison_defaults(
     databases: Sequence[str],
     words: Sequence[str],
-    options: Iterable[Option] = COMPARISON_DEFAULTS,
     note: Callable[[str], None] = say,
 ) -> Defaults:
-    """What the administrator's defaults give these options of a comparison. `databases` are those
+    """What the administrator's defaults give the options of a comparison. `databases` are those
     that the words of the command line name, if they name some."""
-    defaults = defaults_for((DATABASES, *options), words)
+    defaults = defaults_for((DATABASES, *COMPARISON_DEFAULTS), words)
     named = defaults.get(DATABASES.attribute, ())
     # They may be those that the defaults name, by whatever names.
     if databases and not (named and all(map(is_same, databases, named))):
@@ -66,7 +64,7 @@ def comparison_defaults(
 
 
 def exclusions_of(
-    paths: Sequence[str], patterns: Sequence[str], reads_defaults: bool = True
+    paths: Sequence[str], patterns: Sequence[str], reads_defaults: bool
 ) -> Exclusions | None:
     """The list of what is left out: the files of the options, or else that of the administrator,
     and the patterns."""

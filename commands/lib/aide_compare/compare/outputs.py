@@ -57,11 +57,11 @@ def stream_output(descriptor: int, words: str) -> Output:
     return commit
 
 
-def open_output(path: str, what: str, mode: int = PRIVATE) -> Output:
+def open_output(path: str, what: str) -> Output:
     """The place that a path means; a Fault if nothing can be written there."""
     descriptor = descriptor_of(path)
     if descriptor is None:
-        return file_output(path, what, mode)
+        return file_output(path, what, PRIVATE)
     words = f"cannot write {what} {shown(path)}"
     if not _is_open_for_writing(descriptor):
         raise Fault(Status.DEVICE, f"{words}: the caller has not opened it for writing")

@@ -22,7 +22,6 @@ from aide_compare.lines.reader import ODD, end_of
 
 MAX_CLOCKS_DIFFER = 600
 MIN_LINES = 1 << 12
-END_BYTES = 1 << 12  # The last line has nothing but digests, columns and counts.
 
 
 # What ends a comparison.
@@ -50,8 +49,7 @@ def compare_opened(comparison: Comparison, opened: Sequence[Opened]) -> None:
     exception."""
     try:
         for database in opened:
-            copy = copy_opened(database, comparison.request.max_size)
-            comparison.copies[database.side] = copy
+            comparison.copies[database.side] = copy_opened(database, comparison.request.max_size)
         comparison.copies.update(comparison.request.copies)
         lines = read_lines(comparison)
         skipped = skipped_in(comparison.errors, comparison.copies)
@@ -85,7 +83,7 @@ def read_lines(comparison: Comparison) -> Lines:
         target = nameless()
         words += f" in {private_place()}"
     drain = Drain(max(request.max_report, MIN_LINES), partial(write_all, target))
-    tail = Tail(END_BYTES)
+    tail = Tail()
 
     def take(block: bytes) -> None:
         with OSErrorAsFault(words):

@@ -183,7 +183,7 @@ def capabilities_text(value: bytes) -> str | None:
 
 
 @lru_cache(maxsize=4096)
-def mode_text(digits: bytes, kind: str | None = None) -> str | None:
+def mode_text(digits: bytes, kind: str | None) -> str | None:
     """Permissions such as 4755 as ls prints them: -rwsr-xr-x, without the first letter if the type
     is not known."""
     if len(digits) != 4 or digits.strip(b"01234567"):
@@ -203,7 +203,7 @@ _DECODERS = {
 }
 
 
-def decoded(label: str, value: Value, kind: str | None = None) -> str | None:
+def decoded(label: str, value: Value, kind: str | None) -> str | None:
     """The value of an attribute (by its name in the details) of a file of this kind for people,
     None if nothing is to decode."""
     if value is None or isinstance(value, int):

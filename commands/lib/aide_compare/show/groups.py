@@ -18,7 +18,7 @@ RECORDED_OF = (
 )
 
 
-def files_words(count: int, high: int = 0) -> str:
+def files_words(count: int, high: int) -> str:
     files = counted(count, "file")
     if not high:
         return files
