@@ -63,22 +63,18 @@ def bound_of(kind: int, limit: int) -> None:
     resource.setrlimit(kind, (min([limit, *finite]), limits[1]))
 
 
-def bound_memory(more: int) -> None:
-    """Bounds the memory of this process to what it has now and so many bytes more."""
-    with open("/proc/self/statm", encoding="ascii") as file:
-        pages = int(file.read().split()[0])
-    bound_of(resource.RLIMIT_AS, pages * resource.getpagesize() + more)
-
-
 # The limits of the memory of this process before it has limited itself.
 _limits_before: tuple[int, int] | None = None
 
 
 def limit_memory(limit: int) -> None:
-    """Bounds this process to so many bytes more, and none of the programs that it starts."""
+    """Bounds the memory of this process to what it has now and so many bytes more, and that of none
+    of the programs that it starts."""
     global _limits_before
     _limits_before = resource.getrlimit(resource.RLIMIT_AS)
-    bound_memory(limit)
+    with open("/proc/self/statm", encoding="ascii") as file:
+        pages = int(file.read().split()[0])
+    bound_of(resource.RLIMIT_AS, pages * resource.getpagesize() + limit)
 
 
 def limit_time(seconds: int, what: str = "it") -> None:
@@ -214,7 +210,7 @@ def run_on(
     return status
 
 
-def pump(takers: Mapping[int, Taker], deadline: float = math.inf) -> bool:
+def pump(takers: Mapping[int, Taker], deadline: float) -> bool:
     """Gives what comes from each descriptor to its taker until all have ended; False if the time is
     over before that."""
     waiting = dict(takers)

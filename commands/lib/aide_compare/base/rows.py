@@ -41,8 +41,7 @@ class Rows:
         try:
             yield
         except self.error as error:
-            text = f"cannot keep rows in {private_place()}: {error}"
-            raise Fault(Status.DEVICE, text) from None
+            raise Fault(Status.DEVICE, f"cannot keep rows in {private_place()}: {error}") from None
 
     def do(self, statement: str, *values: object) -> None:
         with self._error_as_fault():

@@ -212,8 +212,7 @@ def tar_of(package: int, part: str) -> IO[bytes]:
     ("ctrl")."""
     file = open(nameless(), "w+b")
     drain = Drain(MAX_UNPACKED, file.write)
-    words = ["dpkg-deb", f"--{part}-tarfile", FILE]
-    status = run_tool(words, {1: drain.take}, [package])
+    status = run_tool(["dpkg-deb", f"--{part}-tarfile", FILE], {1: drain.take}, [package])
     if status != 0 or drain.is_cut:
         raise Fault(Status.DEVICE, f"dpkg-deb cannot unpack a signed package: {status}")
     file.seek(0)

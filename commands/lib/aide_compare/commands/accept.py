@@ -204,7 +204,7 @@ def lines_of(request: AcceptRequest, accepted: Accepted) -> Iterator[str]:
     """The lines that say what was done."""
     yield title_line(request, accepted)
     written = accepted.new.written
-    date = "at an unknown time" if written is None else date_of(int(written))
+    date = "at an unknown time" if written is None else date_of(written)
     yield f"new: SHA-256 {accepted.new.sha256}, {request.came} {date}"
     if accepted.merged:
         kinds = ", ".join(f"{kind} {accepted.merged.counts[kind]}" for kind in KINDS)

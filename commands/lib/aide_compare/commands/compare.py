@@ -254,7 +254,7 @@ class Printer:
             for side, copy in comparison.copies.items():
                 line = f"{words_of_side(side)} database: {shown(copy.name)}, "
                 if copy.written is not None:
-                    line += f"written {date_of(int(copy.written))}, "
+                    line += f"written {date_of(copy.written)}, "
                 text += f"aide-compare: {line}SHA-256 {copy.sha256}\n"
             is_brief = self.form == BRIEF and judged is not None
             if comparison.standings and not (is_brief and os.isatty(1)):
@@ -266,8 +266,7 @@ class Printer:
     def _failure(self, comparison: Comparison, _judged: Judged | None) -> Iterable[bytes]:
         """Why nothing was compared."""
         if comparison.has_failed:
-            text = told_of(comparison, self.request.is_quiet, self.request.is_verbose)
-            yield encoded(text)
+            yield encoded(told_of(comparison, self.request.is_quiet, self.request.is_verbose))
 
 
 def main(arguments: Sequence[str]) -> int:

@@ -76,7 +76,6 @@ def become_program(arguments: Sequence[str]) -> NoReturn:
         signal.signal(number, signal.SIG_DFL)
     with OSErrorAsFault(f"cannot run {shown(program)}"):
         os.execv(program, [program, *arguments])
-    raise AssertionError("the program has taken the place of this process")
 
 
 def refuse(word: str, command: str) -> NoReturn:

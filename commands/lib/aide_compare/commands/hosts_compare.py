@@ -102,8 +102,7 @@ def hosts_to_compare(request: HostsRequest) -> list[str]:
     if not request.canary:
         keep_run(request.store, None)
     elif request.canary not in names:
-        why = f"the canary {request.canary} is not among the hosts of the file"
-        raise Fault(Status.USAGE, why)
+        raise Fault(Status.USAGE, f"the canary {request.canary} is not among the hosts of the file")
     return names
 
 

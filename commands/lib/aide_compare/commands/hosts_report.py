@@ -105,8 +105,7 @@ class HostsReport:
         hosts = []
         for number, name in enumerate(names):
             take = partial(self.fleet.add, number)
-            host = read_host(name, request.store, request.seconds, request.max_age, take)
-            hosts.append(host)
+            hosts.append(read_host(name, request.store, request.seconds, request.max_age, take))
         self.fleet.gather()
         self.worst = max(host.status for host in hosts)
         notes, is_unlisted = notes_of(request.store, hosts)
@@ -173,8 +172,7 @@ def request_of(arguments: Sequence[str]) -> ReportRequest:
         raise usage_fault("--format does not go with --to")
     is_of_mail = request.has_page or request.weekly or request.mail_seconds != MAIL_TIME.default
     if is_of_mail and not request.address:
-        text = "--attach-page, --weekly and --mail-time go with --to"
-        raise usage_fault(text)
+        raise usage_fault("--attach-page, --weekly and --mail-time go with --to")
     return request
 
 

@@ -64,7 +64,7 @@ def program_lines(title: str, name: str) -> Iterator[str]:
     for build in builds:
         full_title = title
         if build.endswith(NEWER):
-            full_title = f"{title} for newer processors"
+            full_title += " for newer processors"
         yield from build_lines(full_title, build)
         if len(builds) > 1:
             answer = "yes" if build == running else "no"

@@ -42,12 +42,8 @@ def _ask(
     texts: ConfigurationTexts,
     places: Mapping[int, int],
     take: Taker,
-    first: bytes = b"",
 ) -> Answer:
-    """Runs a program over texts, by these words and those that name the texts. `first`: a line
-    before all of them."""
-    if first:
-        words = [*words, b"--before=" + first]
+    """Runs a program over texts, by these words and those that name the configuration."""
     with closed_after(in_memory(texts.config)) as configuration:
         words = [*words, b"-c", b"/proc/self/fd/%d" % CONFIGURATION]
         return run_program(program, words, {**places, CONFIGURATION: configuration}, take)
@@ -65,21 +61,21 @@ def ask_for_changes(
     `take`, with the `forced` attributes of each changed entry. `without`: the list of what is left
     out."""
     places = {DESCRIPTORS[side]: descriptor for side, descriptor in databases.items()}
-    first = b""
+    words = [b"-E"]
     last = DATABASES.encode()
     if forced:
         line = FORCE + "+".join(forced).encode() + b"\n"
         # Those after `report_url=stdout` do not count, and of the others the last one does.
-        first = line
+        words.append(b"--before=" + line)
         last = line + last
-    words = [b"-E", b"--after=" + texts.after + b"\n" + last]
+    words.append(b"--after=" + texts.after + b"\n" + last)
     for side in TRUSTED_SIDES:
         if side in databases:
             option = f"--{side.replace('_', '-')}=/proc/self/fd/{DESCRIPTORS[side]}"
             words.append(option.encode())
     if without:
         words.append(b"--without=" + without)
-    return _ask(program, words, texts, places, take, first)
+    return _ask(program, words, texts, places, take)
 
 
 def ask_for_lines(

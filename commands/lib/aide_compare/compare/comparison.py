@@ -117,7 +117,7 @@ class Comparison:
     def state(self) -> State:
         """The State that says it."""
         digests = {side: copy.sha256 for side, copy in self.copies.items()}
-        written = {side: _seconds(copy.written) for side, copy in self.copies.items()}
+        written = {side: copy.written for side, copy in self.copies.items()}
         state = State(
             self.status,
             self.time,
@@ -156,7 +156,3 @@ class Comparison:
         if not self.has_failed:
             values["standings"] = self.standings
         return values
-
-
-def _seconds(written: float | None) -> int | None:
-    return None if written is None else int(written)

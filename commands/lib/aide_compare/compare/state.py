@@ -104,10 +104,7 @@ class State(NamedTuple):
 
 
 def not_compared(names: list[str]) -> str:
-    """As in "the column fstype is not compared", with the first names if there are many; "" without
-    names."""
-    if not names:
-        return ""
+    """As in "the column fstype is not compared", with the first names if there are many."""
     if len(names) == 1:
         return f"the column {names[0]} is not compared"
     listed = ", ".join(names[:MAX_NAMES])

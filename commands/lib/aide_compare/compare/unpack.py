@@ -46,13 +46,13 @@ class Opened:
 
 class Copy:
     """A private copy of a database, unpacked, by its descriptor. `name` is that of the database,
-    and `written` when it was last modified, None if that is not known. `digest` is its SHA-256 in
-    base 16, "" before it is known."""
+    and `written` the second when it was last modified, None if that is not known. `digest` is its
+    SHA-256 in base 16, "" before it is known."""
 
     def __init__(self, descriptor: int, name: str, written: float | None) -> None:
         self.fd = descriptor
         self.name = name
-        self.written = written
+        self.written = None if written is None else int(written)
         self.size = os.fstat(descriptor).st_size
         self.digest = ""
 

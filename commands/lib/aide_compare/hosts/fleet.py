@@ -121,8 +121,7 @@ class Fleet:
         if len(hosts) > 1:
             blend(fields, owns)
             if len(olds) > 1:
-                old = fields.pop("old")
-                fields["old_various"] = [name.removesuffix(HEX) for name in old]
+                fields["old_various"] = [name.removesuffix(HEX) for name in fields.pop("old")]
         fields["hosts"] = len(hosts)
         fields["names"] = [self.names[host] for host in hosts[:max_names]]
         return SharedChange({"record": "change", **fields})

@@ -5,7 +5,7 @@ import errno
 import fcntl
 import os
 from collections.abc import Callable
-from contextlib import closing
+from contextlib import ExitStack, closing
 
 from aide_compare.base.ending import Fault, Status, reason
 from aide_compare.base.escapes import shown
@@ -88,13 +88,6 @@ def read_changes(directory: HostDirectory, host: Host, take: Callable[[Outline],
     return host._replace(report=report, listed=listed)
 
 
-def unread_host(name: str, error: Fault | OSError) -> Host:
-    """A host of which nothing can be read."""
-    if isinstance(error, Fault):
-        return host_of(name, error.status, error.text)
-    return host_of(name, Status.DEVICE, f"cannot be read: {reason(error)}")
-
-
 def read_host(
     name: str,
     store: str,
@@ -104,18 +97,17 @@ def read_host(
 ) -> Host:
     """Reads what a store keeps of a host, and gives each change to `take`, if there is one. No run
     is at work on the host then."""
-    try:
-        directory = directory_of(name, store, seconds)
-    except (Fault, OSError) as error:
-        return unread_host(name, error)
-    with closing(directory):
+    with ExitStack() as opened:
         try:
+            directory = opened.enter_context(closing(directory_of(name, store, seconds)))
             host = host_in(directory, max_age)
-        except (Fault, OSError) as error:
-            return unread_host(name, error)
-        if take is None or not host.differs:
-            return host
-        return read_changes(directory, host, take)
+        except Fault as fault:
+            return host_of(name, fault.status, fault.text)
+        except OSError as error:
+            return host_of(name, Status.DEVICE, f"cannot be read: {reason(error)}")
+        if take is not None and host.differs:
+            host = read_changes(directory, host, take)
+    return host
 
 
 def directory_of(name: str, store: str, seconds: int) -> HostDirectory:

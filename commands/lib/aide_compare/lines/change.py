@@ -195,9 +195,7 @@ class Counts(NamedTuple):
         return f"{count} {standing.value}"
 
     def left_out_words(self) -> str:
-        """As in "left out: 3 of 22 changes"; "" without any."""
-        if not self.left_out:
-            return ""
+        """As in "left out: 3 of 22 changes"."""
         return f"left out: {self.left_out} of {counted(self.total, 'change')}"
 
     def line(self) -> str:

@@ -233,18 +233,13 @@ class Reader:
         self._read_end(fields)
         return None
 
-    def counted(self) -> Counter[str]:
-        """How many changes there were of each kind, and with each account."""
-        counted: Counter[str] = Counter()
-        for words, lines in self._lines.items():
-            counted.update(dict.fromkeys(words, lines))
-        return counted
-
     def _read_end(self, fields: Fields) -> None:
         """Takes the last line, whose counts of changes are those of the lines before it."""
+        counted: Counter[str] = Counter()  # By each kind, and by each account.
+        for words, lines in self._lines.items():
+            counted.update(dict.fromkeys(words, lines))
         try:
             counts = end_of(fields)
-            counted = self.counted()
             for key, name in (*zip(KINDS, KINDS), *COUNTED.items()):
                 if counted[key] != getattr(counts, name):
                     raise ValueError

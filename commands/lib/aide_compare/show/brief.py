@@ -71,5 +71,4 @@ def brief_of(judged: Judged | None) -> bytes:
     """The bytes of what people read first; nothing if the changes were not judged."""
     if judged is None:
         return b""
-    text = "\n".join([*brief(judged, SCREEN), "", ""])
-    return encoded(text)
+    return encoded("\n".join([*brief(judged, SCREEN), "", ""]))

@@ -39,17 +39,11 @@ class Row(NamedTuple):
     old: str | None
     new: str | None
 
-    @property
-    def word(self) -> str:
-        return word_of(self.label)
-
     def line(self, kind: str) -> str:
-        texts = ["none" if text is None else text for text in (self.old, self.new)]
-        if kind == "changed":
-            return f"    {self.word:<10} {texts[0]} -> {texts[1]}\n"
-        if kind == "removed":
-            return f"    {self.word:<10} {texts[0]}\n"
-        return f"    {self.word:<10} {texts[1]}\n"
+        """Its line in a change of this kind."""
+        old, new = ("none" if text is None else text for text in (self.old, self.new))
+        values = {"added": new, "removed": old, "changed": f"{old} -> {new}"}
+        return f"    {word_of(self.label):<10} {values[kind]}\n"
 
 
 def values_in(change: Change, others: Collection[str] = ()) -> Iterator[Row]:

@@ -71,8 +71,7 @@ def answer_of(
 ) -> Answer:
     """What the check says of a state file."""
     if is_missing(path):
-        text = f"there is no {shown(path)}; aide-compare --state writes it"
-        return Answer(Level.UNKNOWN, text)
+        return Answer(Level.UNKNOWN, f"there is no {shown(path)}; aide-compare --state writes it")
     state = read_state(path)
     if state.age is None:
         text = f"the last comparison is in the future: {date_of(state.time)}"

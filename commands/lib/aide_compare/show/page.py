@@ -266,7 +266,7 @@ def heading_of(comparison: Comparison, rows: Rows, title: str) -> Fields:
     databases = []
     for side in SIDES:
         copy = comparison.copies[side]
-        time = "" if copy.written is None else minute_of(int(copy.written))
+        time = "" if copy.written is None else minute_of(copy.written)
         name = shown(copy.name, MAX_NAME)
         databases.append({"side": side, "name": name, "time": time, "sha256": copy.sha256})
     remarks = rows.remarks()
