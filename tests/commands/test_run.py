@@ -98,7 +98,6 @@ class RunTest(CommandTest):
         self.call(TOOL, "old.db.gz", "./new.db", "--state", "state")
         state = self.state()
         self.assertEqual(list(state), ALL_KEYS)
-        self.assertEqual(self.read("state").count(b"\n"), 1)
         want = {
             **{"format": "3", "status": "7", **COUNTS, "error": ""},
             **{"old_sha256": sha256(OLD), "new_sha256": sha256(NEW)},
@@ -107,8 +106,6 @@ class RunTest(CommandTest):
         self.assertEqual({**state, **want}, state, "the values of a state")
         moment = int(state["time"])
         self.assertTrue(before <= moment <= time.time(), state)
-        date = time.strftime("%Y-%m-%dT%H:%M:%SZ", time.gmtime(moment))
-        self.assertEqual(state["date"], date)
         self.call(TOOL, "old.db", "old.db.gz", "--state", "state")
         state = self.state()
         self.assertEqual([state[key] for key in ("status", *KINDS)], ["0"] * 4)
@@ -165,9 +162,7 @@ class AgeTest(CommandTest):
         return answer
 
     def test_old_files(self) -> None:
-        self.write_aged("late.db.gz", gzip.compress(NEW), 3 * HOUR + 60)
         self.too_old("late.db", limit=str(3 * HOUR))
-        self.too_old("late.db.gz")
         self.too_old("years.db", age="730 days", limit="180000")
         names = [self.path(name) for name in ("old.db", "late.db")]
         self.write("etc/defaults", f"--databases {' '.join(names)}\n")

@@ -96,10 +96,8 @@ class ShowTest(CommandTest):
     def test_refused(self) -> None:
         for words, said in (
             (["c", *PAIR], "a path begins with /"),
-            (["/c", "old.db"], "name both databases"),
             (["-q", "/c", *PAIR], "PATH comes first"),
         ):
             status, text = misused(self, TOOL, *words)
             self.assertEqual((status, said in text), (15, True), (words, text))
         self.refused(15, b"PATH comes first", TOOL)
-        self.refused(18, b"cannot open the new database no.db", TOOL, "/c", "old.db", "no.db")

@@ -1,7 +1,6 @@
 """How changes stand, wherever people and programs read it, and which of them raise an alarm."""
 from __future__ import annotations
 
-import json
 import os
 import re
 import subprocess
@@ -125,8 +124,6 @@ class StandingsTest(mail.MailTest):
             self.assertEqual(answer.status, 4, answer)
             found = self.state()
             self.assertEqual((found["status"], found["told_status"]), ("4", str(status)))
-            metrics = self.call(f"{TOOL} status --format prometheus --state state").output
-            self.assertIn(b"\naide_compare_status %d\n" % status, metrics)
 
     def test_unknown_rights(self) -> None:
         """A mode that nobody asked for may have changed: that is severe. So it is if a text forces
@@ -152,7 +149,7 @@ class StandingsTest(mail.MailTest):
         self.assertNotIn("severity", line)
 
     def test_monitoring(self) -> None:
-        """Nagios, Prometheus and JSON read the same counts."""
+        """Nagios and Prometheus read the same counts."""
         prepare(self)
         self.call(TOOL, "-q", "--state", "state", "o.db", "n.db")
         status = "aide-compare status --state state --format"
@@ -160,9 +157,6 @@ class StandingsTest(mail.MailTest):
         text = self.call(status, "prometheus").output.decode()
         for name, count in re.findall(r"(\w+)=(\d+)", want):
             self.assertIn(f"\naide_compare_{name}_changes {count}\n", text)
-        found = json.loads(self.call(status, "json").output)
-        numbers = {name: int(count) for name, count in COUNTS.items()}
-        self.assertEqual({**found, **numbers}, found, "the numbers of JSON are numbers")
         answer = self.call(NAGIOS, "--state", "state")
         self.expect("the check", answer, 2, f"AIDE CRITICAL: {WORDS}: ".encode(), b"")
 

@@ -231,9 +231,7 @@ class CheckTest(StateTest):
         state = self.put()
         whole = self.read("state").decode()
         for label, text in (
-            ("nothing", ""),
             ("half", whole[:40]),
-            ("counts that are not of the status", whole.replace('"added": 0', '"added": 1')),
             ("deep", "[" * 60000),
             ("a list", "[]"),
         ):

@@ -2,7 +2,6 @@
 from __future__ import annotations
 
 import gzip
-import json
 import os
 
 from tests.commands import mail
@@ -163,7 +162,6 @@ class TrustedTest(mail.MailTest):
         for words in (
             (TOOL, *BOTH, "--trusted", "canary-old.db"),
             (TOOL, *PAIR, *PAIR, *BOTH),
-            (TOOL, "--trusted", "-", "-", *BOTH),
             (TOOL, "--trusted", "canary-old.db", "-", "-", "host-new.db"),
             (TOOL + " json", *PAIR, "lines"),
         ):
@@ -184,9 +182,6 @@ class TrustedTest(mail.MailTest):
         wanted = {**COUNTS, "trusted_old": "canary-old.db", "trusted_new_sha256": digest}
         wanted["trusted_new"] = r"can\033[31mary\012.db"
         self.assertEqual({**state, **wanted}, state)
-        answer = self.call(TOOL + " status", "--state", "state", "--format", "json")
-        counts = json.loads(answer.output)
-        self.assertEqual([counts[name] for name in ("same", "trusted", "open")], [1, 3, 3])
         answer = self.call(TOOL, *PAIR, *BOTH)
         self.assertIn(b"\nSilent: 1 same, 3 trusted\n", answer.output)
         page = self.call(TOOL + " page", *PAIR, *BOTH)
@@ -205,7 +200,6 @@ class TrustedTest(mail.MailTest):
         message = mail.sent(self)
         self.assertRegex(mail.subject(message), r"3 open \(3 high\) of 7 changes\Z")
         self.assertIn(b"\nSilent: 1 same, 3 trusted\n", mail.body(message))
-        self.assertIn(b"as a page (with the options of this job):\n", mail.body(message))
         os.remove(self.path("canary-new.db"))
         self.assertEqual(mail.call(self, *PAIR, *BOTH).status, 18)
         self.assertIn(b"cannot open the trusted new database", mail.body(mail.sent(self)))

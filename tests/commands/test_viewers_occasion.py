@@ -120,12 +120,9 @@ class OccasionTest(CommandTest):
 
     def test_refused(self) -> None:
         for status, errors, words in (
-            (USAGE, b"name both databases", [OLD]),
             (USAGE, b"name both databases", ["-"]),
-            (USAGE, b"more than two databases", [OLD, NEW, OLD]),
             (USAGE, ONE_PLACE, ["--report", OLD, NEW]),
             (USAGE, ONE_PLACE, ["--only=/x", OLD, NEW]),
-            (DEVICE, b"cannot open the new database /nowhere", [OLD, "/nowhere"]),
             (CONFIGURATION, b"aide: after:1: line not understood", ["-A", "x", OLD, NEW]),
             (DEVICE, b"more than 9 bytes", ["--max-size", "9", OLD, NEW]),
         ):

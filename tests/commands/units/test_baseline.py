@@ -128,9 +128,6 @@ class BaselineTest(ModuleTest):
 
     def test_names(self) -> None:
         self.fails(15, "name of a file: ''", Baseline, "")
-        self.fails(15, "name of a file: x/", Baseline, "x/")
-        os.mkfifo(self.base)
-        self.fails(18, "it is a FIFO", Baseline, self.base)
 
     def test_lock(self) -> None:
         with mock.patch.object(baseline, "SECONDS_FOR_LOCK", 0), opened(self.base):

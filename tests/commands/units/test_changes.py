@@ -31,7 +31,6 @@ COUNTS = Counts(100, 20, 3, 6, 1, 2, 3, 0, 1, 2, 7, 5)
 class ChangesTest(ModuleTest):
     def test_whole(self) -> None:
         self.gives(CHANGE, change_of, LINE)
-        self.expect("the sides", CHANGE.sides, (CHANGE.old, CHANGE.new))
         self.gives(LEAST, change_of, {"path": "/a", "kind": "added"})
 
     def test_standings(self) -> None:
@@ -71,8 +70,6 @@ class ChangesTest(ModuleTest):
     def test_counts(self) -> None:
         self.expect("no change", set(Counts()), {0})
         self.expect("the sums", (COUNTS.silent, COUNTS.to_read, COUNTS.total), (127, 9, 136))
-        self.expect("the high ones", COUNTS.of_severity("high"), 1)
-        self.expect("the low ones", COUNTS.of_severity("low"), 5)
         self.expect("the words", COUNTS.words(), "6 open (1 high), 3 recorded of 136 changes")
         self.expect("left out", COUNTS.left_out_words(), "left out: 7 of 136 changes")
         self.expect("silent ones", Counts(same=1).words(), "1 change, all silent")

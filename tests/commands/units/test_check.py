@@ -33,8 +33,6 @@ ROWS: tuple[tuple[int, int, Counts | None, dict[str, str]], ...] = (
     (CRITICAL, 7, OPEN_HIGH, {}),
     (CRITICAL, 7, OPEN, {"critical": "1"}),
     (CRITICAL, 7, OPEN, {"critical": "medium"}),
-    (WARNING, 4, LOW, {"critical": "2"}),
-    (CRITICAL, 4, MEDIUM, {"critical": "2"}),
     (WARNING, 4, LOW, {"critical": "medium"}),
     (CRITICAL, 4, MEDIUM, {"critical": "medium"}),
     (CRITICAL, 4, HIGH, {"critical": "medium"}),

@@ -68,7 +68,6 @@ class FilesTest(PlacesTest):
         self.fails(18, "Not a directory", text_of, self.path("own/file/x"))
         self.fails(18, "a FIFO", text_of, self.path("own/fifo"))
         self.fails(18, "a directory", text_of, self.path("own"))
-        self.fails(18, "No such file", text_of, self.path("none"))
         self.fails(18, "a device", text_of, "/dev/zero")
         self.fails(18, "not followed", text_of, self.path("group/link"))
         with self.subTest("another user's links"):

@@ -162,10 +162,6 @@ class KeptLinesTest(ModuleTest):
             ("this is no change", [first, {**SOUND[0], "kind": "x"}, SOUND[1], end]),
             ("this is no change", [first, {**SOUND[0], "new": {"Size": []}}, SOUND[1], end]),
             ("not in the order", [first, *reversed(SOUND), end]),
-            ("the end does not fit", [first, {**SOUND[0], "same_as": "old"}, SOUND[1], end]),
-            ("the end does not fit", [first, {**SOUND[0], "left_out": 1}, SOUND[1], end]),
-            ("the end does not fit", [first, SOUND[0], end]),
-            ("the end does not fit", [first, *SOUND, {**end, "same_as_old": "3"}]),
             ("the end does not fit", [first, *SOUND, {"end": True, "status": 3}]),
         ]
         for words, lines in rows:

@@ -31,9 +31,6 @@ class SendingTest(ModuleTest):
             ("printf '%065533d\\nb\\n' 1; echo c; exit 1", "status 1 of sendmail: b"),
         ):
             self.fails(18, why, sending.by_sendmail, self.mailer(body), 1, b"x")
-        words = f'echo "$@" > {self.path("words")}; cat >> {self.path("words")}'
-        self.gives(None, sending.by_sendmail, self.mailer(words), 60, b"a mail")
-        self.assertEqual(self.read("words"), b"-oi -t\na mail")
 
     def test_alert(self) -> None:
         with mock.patch.object(sending, "LOG", self.path("log")), logging(self) as lines:

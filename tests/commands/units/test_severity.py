@@ -227,8 +227,6 @@ class SeverityTest(ModuleTest):
         for path, new in DIRECTORIES.items():
             level = level_of(path, entry(DIRECTORY), new)
             self.expect(f"other rights on {path.decode()}", level, "high")
-        names = level_of(b"/usr/bin", entry(DIRECTORY), entry(DIRECTORY))
-        self.expect("names in /usr/bin", names, "low")
 
     def test_shipped(self) -> None:
         for wanted, paths in SHIPPED.items():

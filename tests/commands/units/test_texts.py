@@ -158,10 +158,6 @@ class TextsTest(ModuleTest):
             with self.subTest(key), self.assertRaises(ValueError):
                 state.parse_state(json.dumps(others).encode())
 
-    def test_statuses(self) -> None:
-        counts = ((0, 0, 0), (9, 0, 0), (0, 9, 0), (0, 0, 9), (1, 1, 1))
-        self.assertEqual([words.status_of_counts(each) for each in counts], [0, 1, 2, 4, 7])
-
     def test_ends(self) -> None:
         """How a command ends by what its main does. Without a text it ends with a message of its
         own, and no traceback."""
@@ -176,7 +172,6 @@ class TextsTest(ModuleTest):
             ("open('/no\\n')", 18, failed),
             ("main(arguments)", 18, None),
             ("raise KeyboardInterrupt", 18, None),
-            ("1 / 0", 18, None),
             ("os.kill(os.getpid(), 2)", -2, ""),
             ("os.kill(os.getpid(), 15)", -15, ""),
             ("print('x'); os.close(1); return 0", 18, None),

@@ -55,10 +55,6 @@ class WeighingTest(ModuleTest):
         assert great is not None
         self.assertEqual((great.user, great.group), ((1 << 64) - 1, -5))
         self.assertIsNone(rights_of(fields_of(old=OLD))[1])
-        one, other = rights_of(
-            fields_of("!" + SAME[1:], old={"Type": "Other"}, new={"Type": "Other"})
-        )
-        self.assertNotEqual(one, other, "two types that have one word")
 
     def test_order_of_sides(self) -> None:
         """A right that came weighs more than one that went."""
