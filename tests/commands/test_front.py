@@ -159,6 +159,10 @@ class FrontTest(CommandTest):
                 self.assertTrue(part.startswith(f"{program}\nSHA-256: {digest}\n".encode()), part)
                 self.assertIn(last, part, record)
         self.answered(0, output, b"", TOOL, "--version")
+        with open("/dev/full", "wb") as full:
+            told = b"cannot write standard output: No space left"
+            for words in (["version"], ["help"], ["json", "--help"]):
+                self.answered(18, None, told, TOOL, *words, stdout=full)
         self.refused(15, b"aide-compare version: ", TOOL, "version", "x")
         os.remove(self.lines_program)
         told = b"cannot find " + self.lines_program.encode()

@@ -139,7 +139,9 @@ class SortingTest(CommandTest):
             self.expect(label, self.sort(text, *words), status, b"", errors)
         with open("/dev/full", "wb") as full:
             answer = self.sort(whole, stdout=full)
-        self.expect("a full device", answer, 18, b"", b"cannot write: No space left")
+        self.expect(
+            "a full device", answer, 18, b"", b"cannot write standard output: No space left"
+        )
         text = text_of([b"36 /%x %s" % (number, b"x" * 200) for number in range(50000)])
         # In blocks of 512 bytes or, for some shells, of 1024.
         limited = ["sh", "-c", 'ulimit -f 4096; exec "$@"', "sh"]

@@ -31,9 +31,9 @@ def misused(scratch: ScratchTest, tool: str, *words: str) -> Any:
 
 def helped(*words: str, main: Callable[[Sequence[str]], object] = front.main) -> bytes:
     """What is printed for words that ask for the help of a command."""
-    with mock.patch.object(parser, "write_all") as written, suppress(Done):
+    with mock.patch.object(parser, "tell") as told, suppress(Done):
         main(words)
-    return bytes(written.call_args[0][1])
+    return f"{told.call_args[0][0]}\n".encode()
 
 
 def in_child(work: Callable[[], bytes]) -> bytes:

@@ -76,7 +76,9 @@ def write_all(descriptor: int, data: bytes | bytearray | memoryview) -> None:
             raise OSError(errno.EIO, "the device takes no bytes")
 
 
-def write_blocks(descriptor: int, parts: Iterable[bytes], words: str = "cannot write") -> None:
+def write_blocks(
+    descriptor: int, parts: Iterable[bytes], words: str = "cannot write standard output"
+) -> None:
     """Writes many parts, some at a time, past Python's own buffers."""
     waiting = bytearray()
     with OSErrorAsFault(words):
@@ -90,7 +92,7 @@ def write_blocks(descriptor: int, parts: Iterable[bytes], words: str = "cannot w
 
 def tell(*lines: str) -> None:
     """Writes lines to standard output."""
-    write_all(1, encoded("".join(f"{line}\n" for line in lines)))
+    write_blocks(1, (encoded(f"{line}\n") for line in lines))
 
 
 def usage_fault(text: str) -> Fault:

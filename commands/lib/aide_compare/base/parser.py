@@ -15,7 +15,7 @@ from contextlib import suppress
 from typing import Any, NamedTuple, NoReturn
 
 from aide_compare import VERSION
-from aide_compare.base.ending import Done, Fault, OSErrorAsFault, Status, usage_fault, write_all
+from aide_compare.base.ending import Done, Fault, OSErrorAsFault, Status, tell, usage_fault
 from aide_compare.base.escapes import shown
 from aide_compare.base.files import lines_of
 from aide_compare.base.kinds import some_text
@@ -157,7 +157,7 @@ class Parser(argparse.ArgumentParser):
         return vars(self.parse_intermixed_args([*arguments[:cut], *operands]))
 
     def _print_message(self, message: str, file: object = None) -> None:
-        write_all(1, message.encode())
+        tell(message.rstrip())
 
     def exit(self, status: int = 0, message: str | None = None) -> NoReturn:
         raise Done  # After --help and --version; faults are in `error`.

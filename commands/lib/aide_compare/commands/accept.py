@@ -227,7 +227,7 @@ def run(request: AcceptRequest, is_quiet: bool) -> int:
     try:
         if not is_quiet:
             tell(*lines_of(request, accepted))
-    except OSError:
+    except Fault:
         say(f"{shown(request.new)} is the baseline, but that could not be printed")
         return Status.DEVICE
     return Status.OK

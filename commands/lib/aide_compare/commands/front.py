@@ -6,7 +6,7 @@ import os
 from collections.abc import Callable, Sequence
 from typing import NoReturn
 
-from aide_compare.base.ending import Fault, OSErrorAsFault, Status, called, write_all
+from aide_compare.base.ending import Fault, OSErrorAsFault, Status, called, tell
 from aide_compare.base.escapes import shown
 
 # Each but those in SHORT is a module, of which only the one that is asked for is loaded.
@@ -49,8 +49,7 @@ usage: aide-compare [compare] [OPTIONS] [OLD NEW]
 
 With -E, -D, --compare or --config-check the proved program gets all arguments
 and reads them as AIDE does: man aide-compare-program. The manual:
-man aide-compare
-"""
+man aide-compare"""
 HOSTS_USAGE = """\
 usage: aide-compare hosts add [OPTIONS] HOST ...        new hosts: asks first
        aide-compare hosts list [OPTIONS] [FILE]         all and their results
@@ -59,8 +58,7 @@ usage: aide-compare hosts add [OPTIONS] HOST ...        new hosts: asks first
        aide-compare hosts accept [OPTIONS] HOST         a new baseline of a host
        aide-compare hosts report [OPTIONS] [FILE]       what differs on all
 
-Options: aide-compare hosts add --help. The manual: man aide-compare-hosts
-"""
+Options: aide-compare hosts add --help. The manual: man aide-compare-hosts"""
 HELP = ("--help", "-h")
 WORDS = (*COMMANDS, "hosts", "help")
 
@@ -84,7 +82,7 @@ def refuse(word: str, command: str) -> NoReturn:
 
 
 def print_usage(text: str) -> int:
-    write_all(1, text.encode())
+    tell(text)
     return Status.OK
 
 

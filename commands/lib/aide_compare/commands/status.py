@@ -5,7 +5,7 @@ from __future__ import annotations
 import os
 from collections.abc import Sequence
 
-from aide_compare.base.ending import Done, Fault, Status, tell, usage_fault, why_of, write_all
+from aide_compare.base.ending import Done, Fault, Status, tell, usage_fault, why_of, write_blocks
 from aide_compare.base.escapes import guarded, shown
 from aide_compare.base.files import is_name
 from aide_compare.base.replacement import replace
@@ -159,7 +159,7 @@ def write_text(request: StatusRequest) -> int:
 
 def write_json(request: StatusRequest) -> int:
     """The object of the state file. What is not known is null."""
-    write_all(1, read_state(request.state).text())
+    write_blocks(1, [read_state(request.state).text()])
     return Status.OK
 
 
@@ -190,7 +190,7 @@ def metrics_of(state: State) -> str:
 def write_metrics(request: StatusRequest) -> int:
     text = metrics_of(read_state(request.state)).encode()
     if request.output == STDOUT:
-        write_all(1, text)
+        write_blocks(1, [text])
     else:
         become_owner(request.output)
         replace(request.output, text, what="the metrics", makes_directory=False)
