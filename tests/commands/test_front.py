@@ -163,6 +163,8 @@ class FrontTest(CommandTest):
             told = b"cannot write standard output: No space left"
             for words in (["version"], ["help"], ["json", "--help"]):
                 self.answered(18, None, told, TOOL, *words, stdout=full)
+        for word in ("json", "show", "hosts add"):
+            self.assertEqual(helped(*word.split(), "--version"), output.splitlines(True)[0])
         self.refused(15, b"aide-compare version: ", TOOL, "version", "x")
         os.remove(self.lines_program)
         told = b"cannot find " + self.lines_program.encode()

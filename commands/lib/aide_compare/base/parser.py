@@ -134,9 +134,11 @@ class Parser(argparse.ArgumentParser):
             argument_default=argparse.SUPPRESS,
             formatter_class=Formatter,
         )
-        version = f"{help.name} {VERSION}"
         self.add_argument(
-            "--version", action="version", version=version, help="print the version and stop"
+            "--version",
+            action="version",
+            version=f"aide-compare {VERSION}",
+            help="print the version and stop",
         )
         self.add_rows(asked.rows())
 
