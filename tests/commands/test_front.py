@@ -12,7 +12,7 @@ TOOL = "aide-compare"
 SUBCOMMANDS = "compare show json page mail accept archive status sort setup version".split()
 HOSTS = "add compare accept report".split()
 EVERY = SUBCOMMANDS + ["hosts " + word for word in HOSTS]
-COMMON = [b"\n  -q, --quiet ", b"\n  -v, --verbose ", b"\n  --version "]
+COMMON = [b"\n  -q, --quiet ", b"\n  -v, --verbose ", b"\n  --version ", b"\n\nStatus"]
 UNKNOWN_BUILD = b"a proved build: not known: "
 # A program in place of the proved one: it tells its arguments, and which signals it ignores.
 TELLS = 'printf "%s\\n" "$@"; grep SigIgn /proc/self/status; exit 5'

@@ -31,6 +31,9 @@ HELP = Help(
     description="""\
 Writes the database to expect now: OLD, with the files of every new or upgraded package as the
 signed archive has them. A comparison takes OLD and this database as a trusted pair.""",
+    epilog="""\
+Status: 0 written; 18 a file is not signed, not there, expired, or not as it was signed, or this
+took too long; 15, 22, 24, and what else 18 means: see aide-compare(1).""",
 )
 DEBIANS_KEYRING = "/usr/share/keyrings/debian-archive-keyring.gpg"
 APTS_LISTS = "/var/lib/apt/lists"

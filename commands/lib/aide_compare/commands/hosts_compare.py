@@ -26,7 +26,7 @@ HELP = Help(
 Fetches and compares the databases of the hosts of HOSTS-FILE, one name a line. Prints a line for
 each host as it ends: its name, its status and the counts. Then a summary.""",
     epilog="""\
-Exit status, the highest of all hosts: 0 nothing to read, 1 to 7 changes that are not
+Status, the highest of all hosts: 0 nothing to read, 1 to 7 changes that are not
 silent, above 7 some host was not compared. 15 if arguments or a host's name are wrong, 17 if the
 list of what is left out is; 18 if the command itself fails.""",
 )

@@ -46,7 +46,7 @@ HELP = Help(
 Reports what differs on the hosts of HOSTS-FILE, as aide-compare hosts compare found it:
 which hosts were not compared, and each change once with the hosts that have it.""",
     epilog="""\
-Exit status, the highest of all hosts: 0 nothing to read, 1 to 7 changes that are not
+Status, the highest of all hosts: 0 nothing to read, 1 to 7 changes that are not
 silent, above 7 some host was not compared. 15, 18 or 22 if the command itself fails.""",
 )
 MAX_NAMES = 20  # Of the hosts of a change, for people.
