@@ -68,12 +68,12 @@ class FrontTest(CommandTest):
     def test_misspelt(self) -> None:
         """What is no subcommand, or no option, ends with 15; nothing is compared."""
         for words, near in (
-            ("jsno", b"name both databases, OLD and NEW, or none\n"),
-            ("stauts --max-age=1h", b"try: aide-compare compare --help\n"),
+            ("jsno", b"name both databases, OLD and NEW, or none, and not only jsno\n"),
+            ("stauts --max-age=1h", b"aide-compare --help, or aide-compare compare --help\n"),
             ("hosts fecth www", b"try: aide-compare hosts --help\n"),
             ("diff old.db new.db", b"more than two databases: new.db\n"),
             ("--reprot old.db new.db", b"unrecognized arguments: --reprot\n"),
-            ("a\033[31m", b"try: aide-compare compare --help\n"),
+            ("a\033[31m", b"and not only a\\033[31m\n"),
             ("mail a", b"try: aide-compare mail --help\n"),
             ("-A \udcff old.db new.db", b"-A/--after: needs a text in UTF-8: \\377\n"),
             ("page --other", b"try: aide-compare page --help\n"),

@@ -99,7 +99,7 @@ def usage_fault(text: str) -> Fault:
     """A fault of the command line, with the help of the command that was called."""
     name = _name
     if name == "aide-compare":
-        name += " compare"
+        name += " --help, or aide-compare compare"  # What is no subcommand is a database.
     return Fault(Status.USAGE, text, f"try: {name} --help")
 
 

@@ -130,7 +130,9 @@ def checked(given: Given) -> CompareRequest:
     request = filled(CompareRequest, given, {})
     databases = request.databases
     if len(databases) == 1:
-        raise usage_fault("name both databases, OLD and NEW, or none")
+        raise usage_fault(
+            f"name both databases, OLD and NEW, or none, and not only {shown(databases[0], 200)}"
+        )
     if len(databases) > 2:
         raise usage_fault(f"more than two databases: {shown(databases[-1], 200)}")
     if request.configuration and not databases:
