@@ -111,6 +111,15 @@ class CanaryTest(CommandTest):
         late = "has sent the same database for more than 8 hours"
         self.check_failed(hosts, late, "--same-for", "8h")
 
+    def test_no_note(self) -> None:
+        """If the note of the canary cannot be written, the others are compared without it."""
+        hosts = self.fleet()
+        os.mkdir(self.path("store/canary"))
+        lines = self.compared(hosts, "--canary", "www1")
+        cause = "compared without it: the note of the canary is a directory"
+        self.assertIn(cause, lines[1])
+        self.assertIn(f"www2 4 {FIVE}2 open (2 high) of 5 changes", lines)
+
     def test_no_host(self) -> None:
         """A canary that is not in the list is refused, and what is no name."""
         self.fleet()

@@ -2,6 +2,7 @@
 from __future__ import annotations
 
 from collections.abc import Iterator, Sequence
+from contextlib import suppress
 
 from aide_compare.base.ending import Fault, Status, fault_of, tell
 from aide_compare.base.escapes import guarded
@@ -45,13 +46,14 @@ def results_beside(
         if first.status > 7:
             raise Fault(first.status, first.text)
         run, copies = trusted_pair(canary, request)
+        keep_run(request.store, run)
         beside = request.but(trusted=copies)
     except (Fault, OSError) as error:
         why = without_name(canary, fault_of(error).text)
-        lost = f"canary {canary} was not used, so the others were compared without it"
-        run = Run("", f"{lost}: {why}")
-        tell(guarded(run.note))
-    keep_run(request.store, run)
+        note = f"canary {canary} was not used, so the others were compared without it: {why}"
+        tell(guarded(note))
+        with suppress(Fault):  # On a full disk the others are compared all the same.
+            keep_run(request.store, Run("", note))
     yield from results([host for host in hosts if host != canary], beside)
 
 
@@ -64,8 +66,8 @@ def compare_all(request: HostsRequest, hosts: Sequence[str]) -> int:
         all_results = results(hosts, request)
     found = []
     for result in all_results:
-        found.append((result.status, result.has_changes and not result.is_alarm))
-        if result.is_alarm or not is_quiet:
+        found.append((result.status, result.has_changes and not result.status))
+        if result.status or not is_quiet:
             tell(result.line())
     worst = max((status for status, _ in found), default=0)
     if not is_quiet or worst:

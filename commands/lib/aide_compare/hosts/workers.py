@@ -34,11 +34,6 @@ class HostResult(NamedTuple):
     text: str
     has_changes: bool = False  # Silent ones too.
 
-    @property
-    def is_alarm(self) -> bool:
-        """Whether somebody has to read the line."""
-        return self.status != 0
-
     def line(self) -> str:
         name = shown(self.host, 200).replace(" ", "\\040")
         return f"{name} {self.status} {self.text}"
