@@ -17,7 +17,9 @@ HELP = Help(
     usage="%(prog)s [OPTIONS] [HOSTS-FILE]",
     description="""\
 Prints a line for each host of HOSTS-FILE: its name, its last status, and what it says.""",
-    epilog="Status: 0 listed; 15 bad arguments; 18 HOSTS-FILE cannot be read, or names none.",
+    epilog="""\
+Status: 0 listed, whatever the lines say; 15 bad arguments; 18 HOSTS-FILE cannot be read, or names
+none.""",
 )
 
 
