@@ -108,8 +108,8 @@ class CanaryTest(CommandTest):
         self.compared(hosts, "--canary", "www1")
         kept = self.path("store/hosts/www1/aide.db.new")
         os.utime(kept, (time.time() - 9 * 3600,) * 2)
-        late = "has sent the same database for more than 8 hours"
-        self.check_failed(hosts, late, "--same-for", "8h")
+        late = "has sent the same database for more than 90 minutes"
+        self.check_failed(hosts, late, "--same-for", "90m")
 
     def test_no_note(self) -> None:
         """If the note of the canary cannot be written, the others are compared without it."""

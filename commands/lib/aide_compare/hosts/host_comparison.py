@@ -23,6 +23,7 @@ from aide_compare.base.options import (
     option,
 )
 from aide_compare.base.replacement import NewFile, replace
+from aide_compare.base.words import age_in_words
 from aide_compare.compare import work
 from aide_compare.compare.comparison import Comparison, ComparisonInput
 from aide_compare.compare.configuration import NONE
@@ -131,8 +132,8 @@ def age_fault(directory: HostDirectory, request: HostsRequest) -> str:
         return ""
     if age < 0:
         return "its database was fetched in the future; is the clock of this host right?"
-    hours = request.same_for // 3600
-    return f"has sent the same database for more than {hours} hours; does AIDE run there?"
+    limit = age_in_words(request.same_for)
+    return f"has sent the same database for more than {limit}; does AIDE run there?"
 
 
 def as_not_compared(directory: HostDirectory, state: State, why: str) -> State:
