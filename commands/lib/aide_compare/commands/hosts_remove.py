@@ -20,7 +20,8 @@ HELP = Help(
 Takes HOST out of the file of hosts, and removes its baseline, its databases, its changes and its
 state. A new HOST of this name begins with aide-compare hosts add.""",
     epilog="""\
-Its key stays: ssh-keygen -R HOST without a user, or its HostName, removes it from known_hosts.
+Its key stays: ssh-keygen -R HOST without a user, or its HostName, removes it from known_hosts; with
+another port than 22 it is '[NAME]:PORT'.
 
 Status: 0 removed; 15 bad arguments; 18 there is no such host, or something could not be
 removed.""",
@@ -58,6 +59,7 @@ def main(arguments: Sequence[str]) -> int:
     if not request.is_quiet:
         tell(
             f"{host} is watched no longer. Its key stays:"
-            f" ssh-keygen -R {host.rpartition('@')[2]}, or its HostName, removes it in known_hosts"
+            f" ssh-keygen -R {host.rpartition('@')[2]}, or its HostName, removes it in known_hosts,"
+            " or '[NAME]:PORT' of another port than 22"
         )
     return Status.OK
