@@ -85,7 +85,8 @@ class StatusTest(StateTest):
     def test_arguments(self) -> None:
         odd = ["--format", "prometheus", "a", "b"], ["--format", "json", "x"], ["--critical", "5x"]
         ignored = ["--format", "json", "--max-age", "2h"], ["--format", "prometheus", "--quiet"]
-        for words in (*odd, *ignored, ["--max-age", "31d"], ["--state", ""]):
+        same = ["--format", "prometheus", "--state", "state", "./state"]
+        for words in (*odd, *ignored, same, ["--max-age", "31d"], ["--state", ""]):
             self.assertEqual(misused(self, STATUS, *words)[0], 15, words)
 
     def test_people(self) -> None:

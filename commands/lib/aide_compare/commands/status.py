@@ -217,8 +217,11 @@ def request_of(arguments: Sequence[str]) -> StatusRequest:
     is_conditional = request.is_quiet or request.max_age != RESULT_AGE.default
     if is_conditional and request.format not in ("text", "nagios"):
         raise usage_fault("only --format text and --format nagios have --quiet and --max-age")
-    if request.output != STDOUT and request.format != "prometheus":
-        raise usage_fault("only --format prometheus has an OUTPUT")
+    if request.output != STDOUT:
+        if request.format != "prometheus":
+            raise usage_fault("only --format prometheus has an OUTPUT")
+        if os.path.realpath(request.output) == os.path.realpath(request.state):
+            raise usage_fault("OUTPUT is the state file")
     return request.but(is_daily=request.state == defaults.get(STATE.attribute, DAILY))
 
 
