@@ -148,6 +148,16 @@ class FloodsTest(CommandTest):
         rest = b"  and %d more, " % (20000 - len(lines))
         self.assertIn(rest, text, "what is not listed is counted")
 
+    def test_own_flood(self) -> None:
+        """What a user has in one folder hides nothing of severity high that he has in others."""
+        hostile = [entry(b"/home/anna/.ssh/%03d" % number, owner=1000) for number in range(250)]
+        others = [b"/home/anna/x%02d/.ssh/x" % number for number in range(30)]
+        mail.prepare(self)
+        self.write_night(hostile + [entry(path, owner=1000) for path in others])
+        text = self.mailed()
+        for path in others:
+            self.assertIn(path + b": ", text)
+
     def test_flooded_page(self) -> None:
         """A page that has no room for all leaves out what matters least: each change of root's is
         on it, and the others are counted."""

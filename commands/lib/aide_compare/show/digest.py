@@ -9,7 +9,7 @@ beyond that comes after all others. What is not listed is counted.
 from __future__ import annotations
 
 import re
-from collections import Counter
+from collections import Counter, defaultdict
 from collections.abc import Callable, Iterable, Iterator, Sequence
 from itertools import chain, islice
 from typing import Any, NamedTuple
@@ -158,30 +158,27 @@ def open_lines(
 
 def chosen(table: Table, level: int, owners: int, limit: int, room: Room) -> list[int]:
     """The places of the changes of a part that are listed, at most so many."""
-    first: list[int] = []
-    more: list[int] = []
-    later: list[int] = []
+    # By whether a change comes later, and whether it is beyond the first of its directory.
+    kept: dict[tuple[bool, bool], list[int]] = defaultdict(list)
     spent: Counter[object] = Counter()
     turns: Counter[object] = Counter()
     question = IN_ORDER_OF_HOSTS if room.is_of_hosts else IN_ORDER
     first_rows = table.ask(f"{question} limit {ENOUGH}", level, owners)
     others = islice(table.ask(question, level, owners), ENOUGH, None)
     for place, party, site in chain(first_rows, others):
-        if len(first) == limit:
+        if len(kept[False, False]) == limit:
             break
         # Root is no party, and neither is a host.
-        is_later = bool(party) and spent[party] == room.party
+        is_later = bool(party) and spent[party] >= room.party
         turn = (site, is_later)
         if turns[turn] == room.few[level]:
             continue
         turns[turn] += 1
-        kept = later
-        if not is_later:
-            spent[party] += 1
-            kept = first if turns[turn] <= room.first else more
-        if len(kept) < limit:
-            kept.append(place)
-    return [*first, *more, *later][:limit]
+        spent[party] += 1
+        part = kept[is_later, turns[turn] > room.first]
+        if len(part) < limit:
+            part.append(place)
+    return [place for _, part in sorted(kept.items()) for place in part][:limit]
 
 
 def rest_words(
