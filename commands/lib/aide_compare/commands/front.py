@@ -77,8 +77,7 @@ def become_program(arguments: Sequence[str]) -> NoReturn:
 
 
 def refuse(word: str, command: str) -> NoReturn:
-    text = f"there is no {command} {shown(word, 100)}"
-    raise Fault(Status.USAGE, text, f"try: {command} --help")
+    raise Fault(Status.USAGE, f"there is no {command} {shown(word, 100)}", f"try: {command} --help")
 
 
 def print_usage(text: str) -> int:

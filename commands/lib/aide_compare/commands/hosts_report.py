@@ -110,8 +110,7 @@ class HostsReport:
         self.worst = max(host.status for host in hosts)
         notes, is_unlisted = notes_of(request.store, hosts)
         # Silent differences are no reason for a mail.
-        has_alarm = any(host.differs or host.status > 7 for host in hosts)
-        self.is_alarm = has_alarm or is_unlisted
+        self.is_alarm = is_unlisted or any(host.differs or host.status > 7 for host in hosts)
         summary = Summary(
             counts=HostCounts.of([(host.status, host.is_silent) for host in hosts]),
             cut=sum(host.report == CUT for host in hosts),

@@ -24,16 +24,21 @@ OWN = frozenset(["Bcount", "Atime", "Mtime", "Ctime", "Inode", "Linkcount"])
 MEMBERS = frozenset("kind path path_hex summary type old new".split())
 # The changes of each host: what makes one the same as others, the digest of its old values, the
 # attributes that are of the host, and its line, which the first of those that are the same has.
+# Only these first ones have an index meanwhile: where hosts are alike it is small, and stays in
+# memory. That of all is made when all are there.
 FOUND = """
 create table found (
     host integer, path_key blob, directory blob, same blob, kind text, owners integer,
     rank integer, old blob, own text, line blob
 )"""
+FIRST = "create unique index first on found (same) where line is not null"
 INDEX = "create index found_same on found (same, host)"
 INSERT = """
 insert into found values (
     ?1, ?2, ?3, ?4, ?5, ?6, ?7, ?8, ?9,
-    case when exists (select 1 from found where same = ?4) then null else ?10 end
+    case
+        when exists (select 1 from found where same = ?4 and line is not null) then null else ?10
+    end
 )"""
 # Each change once. It counts against the host that has the fewest changes of those that have it: in
 # the row this is the site, the party is its directory, and `line_at` says which of the changes of a
@@ -70,7 +75,7 @@ class Fleet:
         self.severity = Severity()
         self.table = Table()
         self.table.do(FOUND)
-        self.table.do(INDEX)
+        self.table.do(FIRST)
 
     def add(self, host: int, outline: Outline) -> None:
         """Takes a change of the host with this number."""
@@ -100,6 +105,7 @@ class Fleet:
 
     def gather(self) -> None:
         """Makes one of the changes that are the same, when all were taken."""
+        self.table.do(INDEX)
         self.table.do(GATHER)
 
     def shared(self, place: int, max_names: int) -> SharedChange:
