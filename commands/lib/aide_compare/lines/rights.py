@@ -200,13 +200,13 @@ def differing(fields: Object) -> Object:
         return fields
     old = dict(fields.get("old", {}))
     new = dict(fields.get("new", {}))
-    names = [name for name, place in PLACES.items() if letters[place] in NO_DIFFERENCE]
+    names = {name for name, place in PLACES.items() if letters[place] in NO_DIFFERENCE}
     if not letters.startswith(OTHER_TYPE) and "Type" in old and "Type" in new:
-        names.append("Type")
-    for name in names:
-        for side in (old, new):
-            side.pop(name, None)
-            side.pop(f"{name}_hex", None)
+        names.add("Type")
+    for side in (old, new):
+        for name in list(side):
+            if name.removesuffix("_hex") in names:
+                del side[name]
     return {**fields, "old": old, "new": new}
 
 
