@@ -59,7 +59,7 @@ def main(arguments: Sequence[str]) -> int:
     if not request.is_quiet:
         tell(
             f"{host} is watched no longer. Its key stays:"
-            f" ssh-keygen -R {host.rpartition('@')[2]}, or its HostName, removes it in known_hosts,"
-            " or '[NAME]:PORT' of another port than 22"
+            f" ssh-keygen -R {host.rpartition('@')[2]}, or its HostName, removes it from"
+            " known_hosts; with another port than 22 it is '[NAME]:PORT'"
         )
     return Status.OK
