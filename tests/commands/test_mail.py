@@ -61,7 +61,7 @@ class TextsTest(MailTest):
         for new, status in (("missing", 18), ("/dev/null", 18), ("cut.db", 24), ("cut.db.gz", 18)):
             self.expect(f"an error of {new}", call(self, "old.db", new), status, b"", b"")
             message = sent(self)
-            self.assertEqual(subject(message), SUBJECT + "no comparison (status %d)" % status)
+            self.assertEqual(subject(message), SUBJECT + "failure (status %d)" % status)
             self.assertRegex(body(message), rb"\Aaide(-compare)?: ", new)
         self.write("etc/defaults", "--odd\n")
         self.assertEqual(call(self, "old.db", "new.db").status, 15)
@@ -268,7 +268,7 @@ class QueueTest(MailTest):
         self.write("half.db", many(b"/f%05d", 4000))
         wanted = {
             1: r"4000 open of 4000 changes|differences \(4000 added\)",
-            18: r"no comparison \(status 18\)",
+            18: r"failure \(status 18\)",
         }
         for size in range(16, 1000, 96):
             with self.mounted("small", "-t", "tmpfs", "-o", "size=%dk" % size, "none") as is_small:

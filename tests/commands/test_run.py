@@ -285,7 +285,7 @@ class SettingsTest(CommandTest):
         for name in (odd, link, self.path("aide.db.new")):
             self.morning(name + " {0}/aide.db.new")
             self.assertEqual(self.state()["status"], "17", name)
-            self.assertIn("no comparison", mail.subject(mail.sent(self)), name)
+            self.assertIn("failure", mail.subject(mail.sent(self)), name)
             said = b"one file as the old and as the new database: "
             self.answered(17, b"", said, "aide-compare", name, "aide.db.new")
         said = b"one file as the trusted new and as the new database: "

@@ -213,7 +213,7 @@ class CheckTest(StateTest):
 
     def test_check_faults(self) -> None:
         self.put(status=24, error="a|b=1;2\x01\x1b[0m|" + "é" * 4000, **NOTHING)
-        said = "no comparison, status 24: a!b=1;2\\001\\033[0m!"
+        said = "failure, status 24: a!b=1;2\\001\\033[0m!"
         self.check("an error", 3, said, "|age=6")
         self.put(status=5, **NOTHING)
         self.check("a state without counts", 3, "is no state file")

@@ -212,7 +212,7 @@ def no_comparison(test: RecipesTest, status: int, reason: str) -> None:
         test.assertRegex(done.error_text, reason)
     for name, commands in test.jobs():
         mail = " ".join((test.mail_of(commands) or "").split(" "))
-        test.assertRegex(mail, rf"(?m)^Subject: .*: no comparison \(status {status}\)$", name)
+        test.assertRegex(mail, rf"(?m)^Subject: .*: failure \(status {status}\)$", name)
         test.assertRegex(" ".join(mail.split()), reason)
         test.assertEqual(test.state()["status"], str(status))
         test.assertRegex(test.state()["error"], reason)

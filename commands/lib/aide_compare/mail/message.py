@@ -36,7 +36,7 @@ def subject_of(state: State, columns: Sequence[str] = (), warnings: Sequence[str
         counts = [f"{count} {kind}" for count, kind in zip(state.counts or (), KINDS) if count]
         parts.append(f"differences ({', '.join(counts)})")
     elif state.status:
-        parts.append(f"no comparison (status {state.status})")
+        parts.append(f"failure (status {state.status})")
     if warnings:
         parts.append("the list of what is left out was changed")
     if columns:

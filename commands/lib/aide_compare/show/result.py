@@ -9,7 +9,7 @@ from aide_compare.lines.change import Counts, Standing
 def result_text(state: State) -> str:
     """What a comparison found, in words."""
     if state.status > 7:
-        return f"no comparison, status {state.status}: {state.error}"
+        return f"failure, status {state.status}: {state.error}"
     text = "no difference"
     if state.status:
         text = f"{state.added} added, {state.removed} removed, {state.changed} changed"
