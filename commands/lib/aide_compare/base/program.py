@@ -16,13 +16,13 @@ DESCRIPTORS = {"old": 3, "new": 4, "trusted_old": 6, "trusted_new": 7}
 CONFIGURATION = 5
 DATABASES = "database_in=file:/proc/self/fd/3\ndatabase_new=file:/proc/self/fd/4"
 MAX_ERRORS = 1 << 20
-END_BYTES = 1 << 12  # The last line has nothing but digests, columns and counts.
+END_BYTES = 1 << 12  # The last line contains only digests, columns and counts.
 # The proved programs that write reports, and lines of JSON or what a configuration says; and the
 # command with all subcommands.
 PROGRAM = "libexec/aide-compare/aide"
 LINES = "libexec/aide-compare/aide_lines"
 FRONT = "bin/aide-compare"
-# A program may stand there a second time, built for newer processors: those with x86-64-v3, by the
+# A program may be there a second time, built for newer processors: those with x86-64-v3, by the
 # names of /proc/cpuinfo.
 NEWER = "-v3"
 NEEDED = frozenset("abm avx avx2 bmi1 bmi2 f16c fma movbe xsave".split())

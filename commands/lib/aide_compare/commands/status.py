@@ -49,13 +49,13 @@ MAX_LINE = 8000
 STDOUT = "-"
 FORMATS = ("text", "json", "prometheus", "nagios")
 PREFIX = "aide_compare_"
-# What Prometheus is told of each standing and of the entries.
+# What each metric means, for Prometheus.
 ENTRIES = {
     "status": "Sum of 1 added, 2 removed and 4 changed, of what is not silent; above 7 a failure.",
     "added_entries": "Entries that are only in the new database.",
     "removed_entries": "Entries that are only in the old database.",
     "changed_entries": "Entries that both databases have and that differ.",
-    "end_time_seconds": "When the databases were compared, or that failed, in seconds since 1970.",
+    "end_time_seconds": "The time of the last comparison or failure, in seconds since 1970.",
 }
 CHANGES = {
     "same": "Changes of times, inode, blocks, the size of a directory and digests that one side"
@@ -71,7 +71,9 @@ CHANGES = {
 class StatusRequest(Asked):
     """What the options ask for."""
 
-    is_quiet: bool = field(QUIET, help="of text: print nothing if a recent one has no difference")
+    is_quiet: bool = field(
+        QUIET, help="of text: print nothing if a recent comparison found no difference"
+    )
     format: str = option("--format", "the form (text)", choices=FORMATS, default="text")
     state: str = field(
         STATE, default=DAILY, help=f"the state file that aide-compare wrote ({DAILY})"
