@@ -15,7 +15,8 @@ from .accepting import DIGEST, TOOL, AcceptingTest, accept_at, contents, forked,
 from .forked import Forked
 from .sandbox import CommandTest, NEW, NOBODY, OLD, sha256
 
-MOST_CALLS = 250
+# These calls take no name, so they do the same if names change places for the call.
+NAMELESS = "read pread64 write flock fsync fchmod fchown setresuid".split()
 FOR_THE_CALL, FOR_GOOD = 2, 3
 BASELINE = "theirs/base/aide.db"
 SECRET = b"what only root may read and write\n"
@@ -74,43 +75,44 @@ def harm(sandbox: CommandTest, before: dict[str, Any]) -> list[object]:
     return [entry for entry in changed if entry[1] != entry[2]] + list(made_by_root(sandbox))
 
 
+def moments(calls: list[str], ways: tuple[int, ...]) -> Iterator[tuple[int, int]]:
+    """Before which calls names change places, and how: each that takes a name, and for good also
+    the first one that takes none after such a call."""
+    former = ""
+    for number, call in enumerate(calls, 1):
+        for way in ways:
+            if call not in NAMELESS or way == FOR_GOOD and former not in NAMELESS:
+                yield number, way
+        former = call
+
+
 @slow
 class AcceptAttacksTest(AcceptingTest):
-    def at_call(
-        self, command: Forked, kind: str, **options: Any
-    ) -> tuple[Answer, list[object], bool]:
-        """Two names change places before one call of the command: its answer, what is harmed, and
-        whether they did."""
+    def at_call(self, command: Forked, kind: str, **options: Any) -> tuple[Answer, list[object]]:
+        """Two names change places before the call with a number: the answer, and what is harmed."""
         one, other = put(self, kind)
         before, mark = roots(self), self.path("marks/swapped")
-        if os.path.isdir(mark):
-            os.rmdir(mark)
         words = ("--sha256", DIGEST, "new", BASELINE)
         done = command.call(*words, **options, AT_ONE=one, AT_OTHER=other, AT_MARK=mark)
-        return done, harm(self, before), os.path.isdir(mark)
+        if "AT_NUMBER" in options:
+            os.rmdir(mark)
+        return done, harm(self, before)
 
-    def at_all_calls(
-        self,
-        kind: str,
-        ways: tuple[int, ...] = (FOR_THE_CALL, FOR_GOOD),
-        allowed: tuple[int, ...] = (0, 18),
-    ) -> set[int]:
+    def at_all_calls(self, kind: str, ways: tuple[int, ...] = (FOR_THE_CALL, FOR_GOOD)) -> set[int]:
         """The names change places before each call in turn, and what is root's stays. Returns
         the statuses."""
         os.makedirs(self.path("marks"), exist_ok=True)
         os.chmod(self.path("marks"), 0o777)
-        command, number, swapped = forked(self), 0, True
+        command = forked(self)
+        done, found = self.at_call(command, kind, AT_NOTES=2)
+        self.assertEqual((done.status, found), (0, []), done)
         statuses: list[int] = []
-        while swapped and number < MOST_CALLS:
-            number += 1
-            for way in ways:
-                options = {"AT_NUMBER": number, "AT_WAY": way}
-                done, found, swapped = self.at_call(command, kind, **options)
-                self.assertEqual(found, [], (kind, options, done))
-                self.assertIn(done.status, allowed if swapped else (0,), (kind, options, done))
-                if swapped:
-                    statuses.append(done.status)
-        self.assertLess(number, MOST_CALLS)
+        for number, way in moments(done.error_text.split(), ways):
+            options = {"AT_NUMBER": number, "AT_WAY": way}
+            done, found = self.at_call(command, kind, **options)
+            self.assertEqual(found, [], (kind, options, done))
+            self.assertIn(done.status, (0, 18), (kind, options, done))
+            statuses.append(done.status)
         self.assertGreater(len(statuses), 12 * len(ways), "moments")
         return set(statuses)
 
@@ -144,10 +146,11 @@ class AcceptAttacksTest(AcceptingTest):
     def test_swapped_database(self) -> None:
         """NEW is exchanged while it is read: what is accepted has the digest."""
         command, ends, name = forked(self), set(), self.path("base/aide.db.new")
-        for number in range(1, 40):
+        calls = accept_at(command, AT_NOTES=2).error_text.split()
+        for number, way in moments(calls[:40], (FOR_GOOD,)):
             fresh(self)
             other = self.write("base/other", gzip.compress(OLD + b"more\n"))
-            options = {"AT_NUMBER": number, "AT_WAY": FOR_GOOD, "AT_ONE": name, "AT_OTHER": other}
+            options = {"AT_NUMBER": number, "AT_WAY": way, "AT_ONE": name, "AT_OTHER": other}
             done = accept_at(command, **options)
             ends.add(done.status)
             self.assertEqual(contents(self)[0], NEW if done.status == 0 else OLD, (number, done))

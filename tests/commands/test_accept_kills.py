@@ -1,5 +1,5 @@
-"""aide-compare accept is killed before each of its calls, also on an old file system; and what is
-on the disk when."""
+"""aide-compare accept is killed before its calls, each time that the disk may have changed, also on
+an old file system; and what is on the disk when."""
 from __future__ import annotations
 
 import os
@@ -11,8 +11,9 @@ from .forked import Forked
 from .sandbox import NEW, NOBODY, OLD
 
 KILLED = 1
-MOST_CALLS = 1000
 NAMING = ("linkat", "renameat", "renameat2")
+# After these calls the disk is as before them.
+READING = ("read", "pread64", "fstatat64", "flock", "setresuid")
 
 
 @slow
@@ -23,9 +24,9 @@ class AcceptKillsTest(AcceptingTest):
         command = forked(self)
         for old in (0, 1):
             fresh(self)
-            done = accept_at(command, AT_NOTES=1, AT_OLD=old)
+            done = accept_at(command, AT_NOTES=2, AT_OLD=old)
             self.assertEqual((done.status, contents(self)), (0, DONE), done)
-            calls = done.output.decode().split()
+            calls = done.error_text.split()
             self.assertIn("fsync", calls, f"old {old}")
             first, last = calls.index("fsync"), len(calls) - 1 - calls[::-1].index("fsync")
             names = [place for place, call in enumerate(calls) if call in NAMING]
@@ -42,23 +43,19 @@ class AcceptKillsTest(AcceptingTest):
         self.kill_everywhere(NOBODY)
 
     def kill_everywhere(self, owner: int | None, old: int = 0) -> None:
+        """Each time that the disk may be another than at the call before."""
         command = forked(self)
-        os.mkdir(self.path("marks"))
-        os.chmod(self.path("marks"), 0o777)
-        number = 1
-        while number < MOST_CALLS:
-            fresh(self, owner)
-            if not self.is_killed(command, {"AT_NUMBER": number, "AT_OLD": old}):
-                break
-            number += 1
-        self.assertTrue(12 < number < MOST_CALLS, number)
+        fresh(self, owner)
+        calls = accept_at(command, AT_NOTES=2, AT_OLD=old).error_text.split()
+        self.assertGreater(len(calls), 12)
+        for number, former in enumerate(["", *calls[:-1]], 1):
+            if former not in READING:
+                fresh(self, owner)
+                self.kills(command, {"AT_NUMBER": number, "AT_OLD": old})
 
-    def is_killed(self, command: Forked, options: dict[str, int]) -> bool:
-        """Whether the command was killed at a call. The baseline is whole, the next run right."""
-        mark = self.path("marks/%(AT_NUMBER)d" % options)
-        done = accept_at(command, AT_WAY=KILLED, AT_MARK=mark, **options)
-        if not os.path.isdir(mark):
-            return False
+    def kills(self, command: Forked, options: dict[str, int]) -> None:
+        """The command is killed at a call. The baseline is whole, the next run right."""
+        done = accept_at(command, AT_WAY=KILLED, **options)
         self.assertEqual(done.status, -9, (options, done))
         baseline, former, new, _ = contents(self)
         self.assertIn(baseline, (OLD, NEW), options)
@@ -68,4 +65,3 @@ class AcceptKillsTest(AcceptingTest):
         self.assertEqual(os.stat(self.path("base/aide.db")).st_mode & 0o777, 0o600, options)
         again = accept_at(command, AT_NUMBER=0)
         self.assertEqual((again.status, contents(self)), (0, DONE), (options, again))
-        return True
