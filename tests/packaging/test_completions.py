@@ -2,11 +2,10 @@
 shells read them."""
 from __future__ import annotations
 
-import functools
 import os
 import re
 
-from tests.lib.answer import run
+from tests.commands.units.calls import helped
 from tests.lib.program_test import slow
 from tests.lib.scratch import read
 from tests.oracle.configuration import BOOL_OPTIONS, LEVELS, SET_OPTIONS
@@ -72,14 +71,14 @@ print -r -- "$answer"
 """
 
 
-def options(trial: InstallTest, words: str) -> list[str]:
+def options(words: str) -> list[str]:
     """The options that the help of a subcommand has."""
-    text = help_of(trial, words)
+    text = helped(*words.split(), "--help").decode()
     found = {"--help"} | named_in(text)
     for line in re.findall(r"^usage: .*(?:\n {4,}.*)*", text, re.M):
         found |= set(re.findall(r"[\[(| ](--?[A-Za-z][\w-]*)", line))
     if words == "status":
-        found |= named_in(help_of(trial, "status --format prometheus"))
+        found |= named_in(helped("status", "--format", "prometheus", "--help").decode())
     return sorted(found - {"-h"})
 
 
@@ -88,16 +87,6 @@ def options_of_program() -> list[str]:
     form = r"^\.It Fl (\w)(?: Ar \w+)? , Fl -([\w-]+)"
     found = re.findall(form, read("man/aide-compare-program.8"), re.M)
     return ["-" + short for short, _ in found] + ["--" + long for _, long in found]
-
-
-def help_of(trial: InstallTest, words: str) -> str:
-    return printed_help(trial.first("bin/aide-compare"), words)
-
-
-@functools.lru_cache(maxsize=None)
-def printed_help(command: str, words: str) -> str:
-    """The help of a subcommand, which each test of this process asks for."""
-    return run(command, [*words.split(), "--help"]).output_text
 
 
 def named_in(text: str) -> set[str]:
@@ -127,7 +116,7 @@ class CompletionsTest(InstallTest):
         named = zsh.split("\n")[0].split()
         self.assertEqual(named, ["#compdef", "aide-compare", "check_aide_compare"])
         for words in SUBCOMMANDS + HOSTS:
-            wanted = options(self, words)
+            wanted = options(words)
             case = re.search(r"^    '%s'\)\n(.*?);;$" % words, zsh, re.M | re.S)
             self.assertTrue(case, "zsh knows " + words)
             for option in wanted:
@@ -143,7 +132,7 @@ class CompletionsTest(InstallTest):
         self.needs("bash")
         for words in SUBCOMMANDS + HOSTS:
             offered = ask_bash(self, "aide-compare", *words.split(), "-")
-            self.assertEqual(set(offered), set(options(self, words)), f"options of {words}")
+            self.assertEqual(set(offered), set(options(words)), f"options of {words}")
         offered = ask_bash(self, "aide-compare", "-E", "-")
         self.assertEqual(sorted(offered), sorted(options_of_program()), "those of the program")
         offered = ask_bash(self, "aide-compare", "s")
