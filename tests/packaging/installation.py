@@ -61,6 +61,15 @@ class Sources(Scratch):
         subprocess.run(["chmod", "-R", "a+rX", target], check=True)
         return target
 
+    def small_copy(self, name: str, *without: str) -> str:
+        """A copy without the files of some folders and without completions, to install it often."""
+        source = self.copy(name)
+        for folder in without:
+            shutil.rmtree(os.path.join(source, folder))
+            os.mkdir(os.path.join(source, folder))
+        self.write(name + "/packaging/completions", "#!/bin/sh\n", 0o755)
+        return source
+
     def make_plain_path(self) -> str:
         """A folder for PATH with few programs: neither rt nor dpkg-deb is found through it."""
         folder = self.path("programs")

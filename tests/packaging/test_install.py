@@ -118,7 +118,7 @@ class InstallingTest(InstallTest):
 
     def test_again(self) -> None:
         """A second run replaces files by renaming; what the repository has no more is removed."""
-        folder, source = self.path("again"), self.copy("changing")
+        folder, source = self.path("again"), self.small_copy("changing", "commands/lib")
         more = os.path.join(source, "contrib", "cron", "left out later")
         shutil.copy(os.path.join(source, "VERSION"), more)
         target = os.path.join(folder, "usr/local", DOCUMENTS, "examples/cron/left out later")
@@ -162,7 +162,7 @@ class InstallingTest(InstallTest):
     def test_interrupted(self) -> None:
         """An installation that stopped half-way can be removed. A signal but SIGKILL leaves no
         private directory either."""
-        source, folder = self.copy("damaged"), self.path("half")
+        source, folder = self.small_copy("damaged", "commands/lib", "docs"), self.path("half")
         shutil.copy(os.path.join(source, "VERSION"), os.path.join(source, "man", "zzz.1"))
         script = self.read("damaged/packaging/install")
         for signal in ("KILL", "HUP", "INT", "QUIT", "PIPE", "TERM"):
@@ -223,9 +223,9 @@ class InstallingTest(InstallTest):
         self.assertEqual((done.status, "--uninstall" in done.output_text), (0, True), done)
         self.assertIn("17 minutes", done.output_text)
 
-    def unbuilt(self) -> tuple[str, dict[str, str]]:
+    def unbuilt(self, *without: str) -> tuple[str, dict[str, str]]:
         """A copy in which nothing is built, and an environment with an rt that notes its calls."""
-        source = self.copy("unbuilt")
+        source = self.small_copy("unbuilt", "contrib", "docs", *without)
         for name in ("aide", "aide_lines"):
             self.write(f"unbuilt/crates/{name}/src/main.rt", "//! A program.\n")
         # Built before a source of aide_patterns was written, which three of these stand on.
@@ -252,7 +252,7 @@ class InstallingTest(InstallTest):
 
     def test_first_command(self) -> None:
         """A comparison in a clone proves and builds the program of lines, an option the other."""
-        source, surroundings = self.unbuilt()
+        source, surroundings = self.unbuilt("commands/lib/aide_compare/hosts")
         shutil.copy2(os.path.join(TOP, "compare"), source)
         self.write("calls", "")
         for words, status, wanted in (
@@ -268,7 +268,7 @@ class InstallingTest(InstallTest):
 
     def test_build(self) -> None:
         """A program that is not built, or that is old, is built first."""
-        source, surroundings = self.unbuilt()
+        source, surroundings = self.unbuilt("commands/lib")
         folder = self.path("built")
         built, lines_built = (
             os.path.join(source, f"crates/{name}/out/{name}") for name in ("aide", "aide_lines")
@@ -288,6 +288,8 @@ class InstallingTest(InstallTest):
         for program, target in zip((self.program, lines_program_of(self.program)), PROGRAMS):
             with open(program, "rb") as file:
                 self.assertEqual(found[target][1], file.read(), target)
+        library = "lib/aide-compare/python/aide_compare"
+        shutil.copytree(self.first(library), os.path.join(folder, "usr/local", library))
         done = self.run_words([folder + "/usr/local/bin/aide-compare", "--version"])
         proved = done.output_text.count("a proved build: yes\n")
         self.assertEqual((done.status, proved), (0, 2), done)
@@ -306,7 +308,7 @@ class InstallingTest(InstallTest):
     def test_byte_code(self) -> None:
         """packaging/install makes byte code below a prefix, keeps it in step with the modules, and
         removes it with them."""
-        source, prefix = self.copy("coded"), self.path("code")
+        source, prefix = self.small_copy("coded", "contrib", "docs"), self.path("code")
         modules = os.path.join(source, "commands/lib/aide_compare")
         # Its text is edited when it is installed.
         table = "TABLE = '/usr/local/share/aide-compare/severity.conf'\n"
