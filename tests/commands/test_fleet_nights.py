@@ -65,8 +65,8 @@ class Fleet(Hosts):
         hosts = self.sandbox.path("hosts")
         said = self.compare("--canary", CANARY, *words, hosts)
         self.sandbox.assertLessEqual(said.status, 7, said)
-        summary, found, changes = self.objects()
-        opened = {host: each["open"] or 0 for host, each in found.items() if each["status"]}
+        summary, self.found, changes = self.objects()
+        opened = {host: each["open"] or 0 for host, each in self.found.items() if each["status"]}
         listed = {name for each in changes for name in each["names"]}
         named = {host: count for host, count in opened.items() if count}
         self.sandbox.assertEqual(set(named), listed, "the hosts that the changes name")
@@ -80,8 +80,8 @@ class Fleet(Hosts):
         self.sandbox.assertEqual(said, Answer(b"", b"", 0))
 
     def accept_silent(self) -> set[str]:
-        """Accepts all hosts of which nothing is open. Returns their names."""
-        found = {name for name, host in self.objects()[1].items() if host["open"] == 0}
+        """Accepts all hosts of which the last report has nothing open. Returns their names."""
+        found = {name for name, host in self.found.items() if host["open"] == 0}
         for host in found:
             self.accept(host)
         return found
@@ -96,6 +96,7 @@ class FleetNightsTest(CommandTest):
         self.assertEqual(fleet.night(), {CANARY: 4, EVIL: 1}, "the night of the upgrade")
         if not silent_first:
             fleet.accept(CANARY)
+            fleet.found = fleet.objects()[1]
         self.assertEqual(fleet.accept_silent(), {*NAMES} - {CANARY, EVIL})
         if silent_first:
             fleet.accept(CANARY)
