@@ -288,7 +288,7 @@ unaccounted_of new old told e f = record {
   alone = alone_else old told f;
 }
 
--- At each path for which a trusted machine accounts, its own databases have a change for which nothing accounts.
+-- At each path for which a trusted machine accounts, its own databases have one for which their old entry does not.
 pub trusted_changed : (found trusted : Pair) → same_as found trusted ≡ Some Trusted → IsUnaccounted trusted
 unfolding same_as
 trusted_changed found trusted e = search (rules, trusted_has, unaccounted_of, and_parts, not-true)

@@ -38,7 +38,7 @@ is_change (Some old, Some new) = list_any (is_affected (sides_between old new)) 
 is_change (None, None) = false
 is_change _ = true
 
--- two databases, compared without a trusted machine, have a change there for which nothing accounts
+-- two databases have a change there, for which the old entry does not account
 pub record IsUnaccounted (pair : Pair) : Type 0 where
   pub changed : is_change pair ≡ true
   pub alone : same_as pair (None, None) ≡ None

@@ -37,8 +37,8 @@ abbrev pub has_entry : Pair → Bool
 has_entry (None, None) = false
 has_entry _ = true
 
--- A list may leave a change out: its path is not that of the settings, neither entry gives a right, and only who could
--- write a directory before may write it, or the owner of a new one.
+-- A list may leave a change out: its path is not that of the settings, neither entry gives a right, and a directory may
+-- be written only by its owner and by who could write it before.
 abbrev pub may_go : Measures → (path : List ℕ) → Pair → Bool
 may_go measures path pair = not (is_setting path)
     && (is_harmless_if measures.of_old pair.0

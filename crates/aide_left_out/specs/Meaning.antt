@@ -31,7 +31,7 @@ pub record IsHarmless (measures : Bool) (entry : Attributes) : Type 0 where
   -- the database of a program contains the column of capabilities
   pub measured : is_program kind mode ≡ true → measures ≡ true
 
--- Every user who may write a directory could write it before, or is the owner of one that was none before.
+-- Who may write a directory could write it before, or owns it; if it was a directory before, its owner is the same.
 pub record KeepsWriters (old_one : Option Attributes) (after : Attributes) : Type 0 where
   -- a directory that others than its owner may write was one before, with the same permissions, group and access list
   pub others : others_write after ≡ true → (before : Attributes) × (old_one ≡ Some before)

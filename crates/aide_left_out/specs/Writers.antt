@@ -32,8 +32,8 @@ others_write entry = others_write_by (mode_in (entry Perm))
 abbrev pub is_kept : (before after : Attributes) → Attr → Bool
 is_kept before after a = not (is_affected (sides_between before after) a)
 
--- No user may write a directory who could not before: its owner is the same and, if others may write
--- it, so are its permissions, group and access list.
+-- No user but its owner may write a directory who could not before: its owner is the same and, if others may write it,
+-- so are its permissions, group and access list.
 abbrev pub keeps_writers : (before after : Attributes) → Bool
 keeps_writers before after = is_kept before after Uid
     && (not (others_write after)
