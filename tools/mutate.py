@@ -21,7 +21,6 @@ import tempfile
 from collections.abc import Iterator
 from typing import Any, NamedTuple
 
-from tests.lib import signals
 from tests.lib.apart import apart
 from tests.lib.copies import copy_sources
 from tests.lib.programs import VARIABLE
@@ -186,7 +185,6 @@ def main() -> int:
         parser.add_argument(name, type=int, default=usual, help=f"{text} (%(default)s)")
     args = parser.parse_args()
     tally = Tally()
-    signals.heed()
     print(f"seed {args.seed}", flush=True)
     with open(os.path.join(TOP, args.file), encoding="utf-8") as source:
         whole = source.read()

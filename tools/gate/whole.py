@@ -12,7 +12,6 @@ import subprocess
 import sys
 from collections.abc import Callable
 
-from tests.lib import signals
 from tests.lib.scratch import TOP
 from tests.lib.tally import Tally
 from tools.gate import second_builds, unit_tests
@@ -123,7 +122,6 @@ def try_programs(gate: Gate) -> None:
 
 def main() -> int:
     parser_of("tools.gate.whole", __doc__).parse_args()
-    signals.heed()
     gate = Gate()
     names = unit_tests.modules(unit_tests.SOURCE)
     gate.part(unit_tests.SOURCE, lambda tally: unit_tests.run_all(names, tally))
