@@ -72,7 +72,7 @@ class StatusRequest(Asked):
     """What the options ask for."""
 
     is_quiet: bool = field(
-        QUIET, help="of text: print nothing if a recent comparison found no difference"
+        QUIET, help="of text: print nothing if a recent comparison found nothing to read"
     )
     format: str = option("--format", "the form (text)", choices=FORMATS, default="text")
     state: str = field(
@@ -152,7 +152,7 @@ def write_text(request: StatusRequest) -> int:
         raise Fault(Status.DEVICE, text, hint)
     state = read_state(request.state)
     is_young = state.age is not None and not state.is_older(request.max_age)
-    if request.is_quiet and state.status == 0 and is_young:
+    if request.is_quiet and state.told_status == 0 and is_young:
         return Status.OK
     lines = [*paragraph(state, request.max_age), *mail_lines(request)]
     tell(*(guarded(line)[:MAX_LINE] for line in lines))
