@@ -23,7 +23,7 @@ Fields = dict[str, Any]
 
 
 class Standing(Enum):
-    """How a change stands. The words are those of every text, page, line and state file."""
+    """How a change stands. The words are those of every text, page and line."""
 
     SAME = "same"  # The entry is as it was, but for what its host makes of it, such as times.
     TRUSTED = "trusted"  # A machine, or a signed archive, that is trusted changed in the same way.
