@@ -193,7 +193,8 @@ class SetupTest(CommandTest):
         self.assertEqual(stat.S_IMODE(mode), 0o755, "a job that cron runs")
         self.write("root/run/systemd/system/keep", "")
         said = b"compares too, and with systemd the timer does: remove it\n"
-        self.expect("cron's job, whatever the timer", self.call(TOOL), 18, None, said)
+        answer = self.call(TOOL)
+        self.expect("cron's job, whatever the timer, is named once", answer, 18, b"", said)
 
     def test_other_system(self) -> None:
         """A system of rpm: AIDE is root's, and its configuration and first command are others."""
@@ -254,8 +255,9 @@ class SetupTest(CommandTest):
         hint = b"look now whether it came.\nExim puts it into /var/mail/mail if /etc/aliases has"
         self.set_up("mails for root", (), 0, hint)
         self.write(DAILY + "/mail/1.mail", "")
-        waits = b"missing: 1 mail that could not be sent yet: "
-        self.set_up("a mail waits", ("--check",), 18, waits)
+        self.write(DEFAULTS, "--max-age=x\n")
+        waits = (b"missing: 1 mail that could not be sent yet: ", b"missing: the owner of ")
+        self.set_up("a mail of root's", ("--check",), 18, *waits, b"/defaults, line 1: ")
         os.remove(self.path(DAILY + "/mail/1.mail"))
         os.remove(self.path("stubs/sendmail"))
         environment = {"PATH": self.path("stubs") + ":/usr/bin:/bin"}

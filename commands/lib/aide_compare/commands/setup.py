@@ -9,7 +9,7 @@ import stat
 from collections.abc import Callable, Iterator, Sequence
 from contextlib import suppress
 from functools import partial
-from typing import NamedTuple, NoReturn
+from typing import NamedTuple
 
 from aide_compare.base.ending import Fault, Status, tell
 from aide_compare.base.escapes import shown
@@ -78,11 +78,6 @@ class Step(NamedTuple):
     title: str
     is_done: bool
     make: Callable[[], None]
-
-
-def refuse(text: str) -> NoReturn:
-    """Makes nothing: an administrator has to."""
-    raise Fault(Status.DEVICE, text)
 
 
 class Machine:
@@ -228,8 +223,6 @@ class Machine:
         if self.is_debian and self.has_timer:
             title = f"upgrades to signed packages are silent: {PATHS.signed}"
             yield Step(title, os.path.lexists(PATHS.signed), make_signed)
-        for text in self.other_jobs():
-            yield Step(text, False, partial(refuse, text))
         yield self.job()
         if not (self.request.no_mail or self.request.is_check):
             yield Step(f"a test mail to {self.reader()}", False, self.send_test)
@@ -241,7 +234,10 @@ class Machine:
 
 
 def take_steps(machine: Machine) -> None:
-    """Makes what is missing."""
+    """Makes what is missing, unless a job is in its way."""
+    others = list(machine.other_jobs())
+    if others:
+        raise Fault(Status.DEVICE, *others)
     count = 0
     for number, step in enumerate(machine.steps(), 1):
         if step.is_done:
@@ -256,7 +252,7 @@ def take_steps(machine: Machine) -> None:
 def tell_missing(machine: Machine) -> int:
     """Says what is missing, and changes nothing."""
     missing = [step.title for step in machine.steps() if not step.is_done]
-    missing += troubles(f"{machine.daily}/mail")
+    missing += [*machine.other_jobs(), *troubles(f"{machine.daily}/mail")]
     if not missing:
         tell("nothing is missing")
         return Status.OK
