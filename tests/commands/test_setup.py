@@ -193,8 +193,7 @@ class SetupTest(CommandTest):
         self.assertEqual(stat.S_IMODE(mode), 0o755, "a job that cron runs")
         self.write("root/run/systemd/system/keep", "")
         said = b"compares too, and with systemd the timer does: remove it\n"
-        answer = self.call(TOOL)
-        self.expect("cron's job, whatever the timer, is named once", answer, 18, b"", said)
+        self.expect("cron's job is named, and only once", self.call(TOOL), 18, b"", said)
 
     def test_other_system(self) -> None:
         """A system of rpm: AIDE is root's, and its configuration and first command are others."""

@@ -166,9 +166,10 @@ class InstallingTest(InstallTest):
         shutil.copy(os.path.join(source, "VERSION"), os.path.join(source, "man", "zzz.1"))
         script = self.read("damaged/packaging/install")
         for signal in ("KILL", "HUP", "INT", "QUIT", "PIPE", "TERM"):
-            # This copy of the script stops before its last file, as if it was killed there.
-            killed = f"put() {{\n    case $* in */zzz.1) kill -{signal} $$ ;; esac\n".encode()
-            self.write("damaged/packaging/install", script.replace(b"put() {\n", killed))
+            # This copy of the script stops at its last file, as if it was killed there.
+            begun = b'mkdir "$temporary" &&'
+            killed = begun + f" case $* in */zzz.1) kill -{signal} $$ ;; esac &&".encode()
+            self.write("damaged/packaging/install", script.replace(begun, killed))
             room = self.path("room " + signal)
             os.mkdir(room)
             done = self.run_install(folder, source=source, env=dict(os.environ, TMPDIR=room))
