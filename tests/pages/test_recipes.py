@@ -29,8 +29,6 @@ class HandsTest(RecipesTest):
         self.assertEqual((done.status, done.output_text.count("Summary:")), (7, 2))
         entries = re.findall(rb"^\S.{17}: /.*$", done.output, re.M)
         self.assertEqual(len(entries), 22)
-        grouped = re.findall(rb"^\S.{17}: /.*$", self.recipe("grouped").output, re.M)
-        self.assertEqual(sorted(grouped), sorted(entries))
         self.put_files(OLD, OLD)
         self.assertEqual(self.recipe("pair").status, 0)
 
