@@ -189,8 +189,10 @@ class SetupTest(CommandTest):
         shutil.rmtree(self.path("root/run/systemd"))
         self.set_up("setup without systemd", ("--no-mail",), 0, b"cron.daily")
         self.assertFalse(os.path.lexists(self.path("root/etc/systemd")))
-        mode = os.stat(self.path("root/etc/cron.daily/aide-compare")).st_mode
-        self.assertEqual(stat.S_IMODE(mode), 0o755, "a job that cron runs")
+        self.write("root/etc/cron.daily/dailyaidecheck", "", 0o644)
+        last = max(os.listdir(self.path("root/etc/cron.daily")))
+        mode = os.stat(self.path(f"root/etc/cron.daily/{last}")).st_mode
+        self.assertEqual(stat.S_IMODE(mode), 0o755, "a job that cron runs, after AIDE's own")
         self.write("root/run/systemd/system/keep", "")
         said = b"compares too, and with systemd the timer does: remove it\n"
         self.expect("cron's job is named, and only once", self.call(TOOL), 18, b"", said)

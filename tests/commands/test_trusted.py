@@ -27,7 +27,7 @@ WANTED = {
 WATCHERS = (
     *(b"/etc/aide-compare", b"/etc/aide-compare/without", b"/etc/aide-compare/x/y"),
     *(b"/etc/aide.conf", b"/etc/aide/aide.conf", b"/etc/aide/aide.conf.d/99_x"),
-    *(b"/etc/default/aide", b"/etc/cron.daily/aide-compare", b"/etc/cron.d/aide-compare-fleet"),
+    *(b"/etc/default/aide", b"/etc/cron.daily/zz-aide-compare", b"/etc/cron.d/aide-compare-fleet"),
     b"/etc/systemd/system/aide-compare.service.d/signed.conf",
     b"/etc/systemd/system/timers.target.wants/aide-compare.timer",
     *(b"/run/systemd/system/aide-.service.d/x.conf", b"/run/systemd/transient/service.d/x.conf"),

@@ -16,7 +16,7 @@ WANTED = "etc/systemd/system/timers.target.wants/" + TIMER
 MADE = (
     "etc/aide-compare/defaults",
     "etc/apt/apt.conf.d/60aide-compare",
-    "etc/cron.daily/aide-compare",
+    "etc/cron.daily/zz-aide-compare",
     "etc/systemd/system/aide-compare.service.d/signed.conf",
 )
 RULES = "etc/aide/aide.conf.d/31_aide_aide-compare"

@@ -95,13 +95,14 @@ begin_cron() {
     block 'cron daily' > "$folder/cron"
     check 'the job of cron is copied' sh -e "$folder/cron"
     check "run-parts takes the job, after Debian's own" is_after_aide
-    printf '* * * * * root /etc/cron.daily/aide-compare\n' > /etc/cron.d/aide-compare
+    printf '* * * * * root /etc/cron.daily/zz-aide-compare\n' > /etc/cron.d/aide-compare
     cron -f &
 }
 
 is_after_aide() {
     run-parts --test /etc/cron.daily > "$folder/parts" || return 1
-    aide=$(grep -nx /etc/cron.daily/aide "$folder/parts") && ours=$(grep -nx /etc/cron.daily/aide-compare "$folder/parts") &&
+    aide=$(grep -nxE '/etc/cron.daily/(daily)?aide(check)?' "$folder/parts") &&
+        ours=$(grep -nx /etc/cron.daily/zz-aide-compare "$folder/parts") &&
         [ "${aide%%:*}" -lt "${ours%%:*}" ]
 }
 

@@ -66,8 +66,8 @@ class RecipesTest(MachineTest):
         self.recipes = recipes()
         self.write("/etc/aide/aide.conf", self.below(CONFIGURATION))
         self.write("/etc/aide-compare/defaults", self.below(DEFAULTS))
-        self.write("/etc/cron.daily/aide-compare", self.example("cron/aide-compare.cron.daily"))
-        os.chmod(self.path("/etc/cron.daily/aide-compare"), 0o755)
+        self.write("/etc/cron.daily/zz-aide-compare", self.example("cron/aide-compare.cron.daily"))
+        os.chmod(self.path("/etc/cron.daily/zz-aide-compare"), 0o755)
 
     def example(self, name: str) -> str:
         return self.text_at("/usr/local/share/doc/aide-compare/examples/" + name)
@@ -101,7 +101,7 @@ class RecipesTest(MachineTest):
         """What starts a comparison each day: the units, and the job of cron."""
         return [
             ("timer", self.unit_commands()),
-            ("cron", [self.path("/etc/cron.daily/aide-compare")]),
+            ("cron", [self.path("/etc/cron.daily/zz-aide-compare")]),
         ]
 
     def state(self) -> dict[str, str]:

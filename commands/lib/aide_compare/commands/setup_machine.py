@@ -35,7 +35,7 @@ class Paths:
         self.defaults = f"{root}/etc/aide-compare/defaults"
         self.without = f"{root}/etc/aide-compare/without"
         self.apt = f"{root}/etc/apt/apt.conf.d/60aide-compare"
-        self.cron_job = f"{root}/etc/cron.daily/aide-compare"
+        self.cron_job = f"{root}/etc/cron.daily/zz-aide-compare"
         self.systemd = f"{root}/run/systemd/system"
         self.signed = f"{root}/etc/systemd/system/aide-compare.service.d/signed.conf"
 

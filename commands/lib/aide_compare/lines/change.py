@@ -44,7 +44,7 @@ LEFT_OUT = "left_out"  # The member of a proved line with the number of the list
 # the comparison. No trusted pair accounts for a change there, whatever happened on its machine.
 WATCHERS = (
     rb"(?s)/etc/aide-compare(?:/.*)?|/etc/aide(?:/.*)?|/etc/aide\.conf|/etc/default/aide"
-    rb"|/etc/cron\.(?:daily/aide-compare|d/aide-compare-fleet)"
+    rb"|/etc/cron\.(?:daily/zz-aide-compare|d/aide-compare-fleet)"
     rb"|/(?:etc|run|lib|usr/lib|usr/local/lib)/systemd/(?:.*/)?(?:aide-|service\.d/|timer\.d/).*"
 )
 
