@@ -44,7 +44,7 @@ import os, sys
 from _frozen_importlib_external import PathFinder
 
 def text_of(name):
-    with open(os.path.dirname(os.path.dirname(os.path.realpath(__file__))) + name) as file:
+    with open(os.path.dirname(os.path.dirname(os.path.realpath(__file__))) + name, "rb") as file:
         return file.read()
 
 class Replacing:
