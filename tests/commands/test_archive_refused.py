@@ -12,8 +12,11 @@ from tests.commands.signed_archive import TWO, ArchiveCase, Built
 
 class ArchiveRefusedTest(ArchiveCase):
     def test_limits(self) -> None:
-        """gpgv may print without end, or never end: both are ended, and nothing was made."""
+        """An index may be large. gpgv that prints without end, or never ends, is ended."""
+        self.place.built[0].fields += 20000 * f"\n\nDescription: \U0001f511 {1000 * 'x'}"
         self.place.sign()
+        self.set_names("commands.archive", MAX_MEMORY=120 << 20)  # It is decoded in parts.
+        self.applied()
         old = self.place.old.database()
         for number, words in (1, ("yes",)), (3, ("sh", "-c", "yes >&3")):
             self.set_names("changes.signed", GPGV=words, MAX_RELEASE=1 << 20)

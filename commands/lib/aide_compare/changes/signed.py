@@ -134,8 +134,9 @@ def packages_of(release: Release, keys: int) -> Iterator[Signed]:
         if has_index(release, path):
             with closed_after(copy_signed(path, int(size), digest)) as copy:
                 index = UNPACK[ending](read_whole(copy, MAX_INDEX, shown(path)))
-            for paragraph in index.decode("utf-8", "surrogateescape").split("\n\n"):
-                yield {**dict(FIELD.findall(paragraph)), RELEASE: release.path}
+            for paragraph in index.split(b"\n\n"):
+                text = paragraph.decode("utf-8", "surrogateescape")
+                yield {**dict(FIELD.findall(text)), RELEASE: release.path}
 
 
 def is_less(version: str, other: str) -> bool:
