@@ -60,10 +60,12 @@ class ArchiveRefusedTest(ArchiveCase):
         place.sign()
         package = "mirror/pool/tool_2_amd64.deb"
         whole = self.read(package)
-        self.write(package, whole[:-1] + bytes([whole[-1] ^ 1]))
-        self.not_made(b"tool_2_amd64.deb is not as it was signed")
-        self.write(package, whole + b"more")
-        self.not_made(b"tool_2_amd64.deb is not as it was signed")
+        for text in (whole[:-1] + bytes([whole[-1] ^ 1]), whole + b"more"):
+            self.write(package, text)
+            self.not_made(b"tool_2_amd64.deb is not as it was signed")
+        place.built[0].fields = place.built[0].fields.replace("Filename", "Other")
+        place.sign()
+        self.not_made(b"InRelease: a package lacks a field")
 
     def test_expired(self) -> None:
         line = "Valid-Until: Sat, 01 Jan %d 00:00:00 UTC\n"

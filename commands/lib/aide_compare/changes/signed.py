@@ -175,6 +175,10 @@ class Catalog:
         for release in releases:
             for signed in packages_of(release, keys):
                 if signed.get("Architecture") in self.architectures:
+                    if len(signed) < 7:  # Six fields, and the path of the signed file.
+                        raise Fault(
+                            Status.DEVICE, f"{shown(release.path)}: a package lacks a field"
+                        )
                     self._take(signed)
 
     def _take(self, signed: Signed) -> None:
