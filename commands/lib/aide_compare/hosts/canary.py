@@ -133,11 +133,12 @@ def keep_run(store: str, run: Run | None) -> None:
     over some hosts only, so that the others still are silent beside the last one."""
     path = f"{store}/{RUN}"
     if run is None:
-        known = run_in(store)
-        if known and not known.host:
-            os.unlink(path)
+        with suppress(Fault):  # A damaged one stays, and reports say so.
+            known = run_in(store)
+            if known and not known.host:
+                os.unlink(path)
         return
-    text = json.dumps(run._replace(note=guarded(run.note)[:MAX_NOTE]))
+    text = json.dumps(run._replace(note=run.note[:MAX_NOTE]))
     replace(path, text.encode(), 0o600, "the note of the canary")
 
 
