@@ -105,7 +105,7 @@ def read_host(
             return host_of(name, fault.status, fault.text)
         except OSError as error:
             return host_of(name, Status.DEVICE, f"cannot be read: {reason(error)}")
-        if take is not None and host.differs:
+        if take and host.differs:
             host = read_changes(directory, host, take)
     return host
 

@@ -115,7 +115,7 @@ def report_lines(report: Report) -> Iterator[str]:
 
 def short_names(shared: SharedChange) -> str:
     """The hosts of a change in few columns, such as "www1, www2 +35"."""
-    for number in range(min(len(shared.names), shared.hosts), 0, -1):
+    for number in range(len(shared.names), 0, -1):
         text = ", ".join(shared.names[:number]) + more_hosts(shared.hosts - number)
         if len(text) <= NAMES_WIDTH:
             return text

@@ -94,8 +94,7 @@ class Worker:
             text = f"was not compared within {self.request.seconds} seconds"
         # The state says so. Another run may have the lock by now, and writes a state of its own.
         with suppress(Fault, OSError):
-            directory = HostDirectory(self.request.store, self.host, PAUSE)
-            directory.not_compared(f"{self.host}: {text}")
+            HostDirectory(self.request.store, self.host, PAUSE).not_compared(f"{self.host}: {text}")
         return HostResult(self.host, int(Status.DEVICE), text)
 
 
