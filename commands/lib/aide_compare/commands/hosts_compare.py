@@ -59,7 +59,6 @@ def results_beside(
 
 def compare_all(request: HostsRequest, hosts: Sequence[str]) -> int:
     """Prints a line for each host and the summary; returns the greatest status."""
-    is_quiet = request.is_quiet
     if request.canary:
         all_results = results_beside(request.canary, hosts, request)
     else:
@@ -67,10 +66,10 @@ def compare_all(request: HostsRequest, hosts: Sequence[str]) -> int:
     found = []
     for result in all_results:
         found.append((result.status, result.has_changes and not result.status))
-        if result.status or not is_quiet:
+        if result.status or not request.is_quiet:
             tell(result.line())
     worst = max((status for status, _ in found), default=0)
-    if not is_quiet or worst:
+    if not request.is_quiet or worst:
         counts = HostCounts.of(found)
         tell(f"{counts.headline()}, {counts.others()}")
     return worst

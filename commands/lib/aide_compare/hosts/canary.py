@@ -147,9 +147,8 @@ def run_in(store: str) -> Run | None:
     path = f"{store}/{RUN}"
     if not os.path.lexists(path):
         return None
-    text = read_file(path, MAX_TEXT, "the note of the canary ")
     try:
-        host, note, digest = json.loads(text)
+        host, note, digest = json.loads(read_file(path, MAX_TEXT, "the note of the canary "))
         return Run(str(host), guarded(str(note)), str(digest))
     except (ValueError, TypeError):
         raise Fault(Status.DEVICE, f"{shown(path)} is no note of a canary") from None
