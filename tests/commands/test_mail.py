@@ -215,10 +215,15 @@ class QueueTest(MailTest):
         os.mkdir(self.path("queue/0.2.mail"))
         os.mkfifo(self.path("queue/0.3.mail"))
         os.symlink(self.path("old.db"), self.path("queue/0.4.mail"))
+        take_mail(self, "grep -q ^To: /dev/stdin || exit 75;")
+        self.write("queue/0.5.mail", "Subject: a\fb: c\n\n")  # No header can have it.
+        parts = ["a" * size for size in range(1, 999)]
+        deep = [f"Content-Type: multipart/x; boundary={part}\n\n--{part}\n" for part in parts]
+        self.write("queue/0.6.mail", "".join(deep))  # A short mail is made of its beginning.
         answer = call(self, "--send-queue", "queue")
         self.expect("no mails", answer, 18, b"", b"aide-compare mail: ")
         self.assertEqual(subject(sent(self)), SUBJECT + COUNTS, ("the mail behind them", answer))
-        self.assertEqual(self.waiting(), ["0.%d.mail" % number for number in (1, 2, 3, 4)])
+        self.assertEqual(self.waiting(), ["0.%d.mail" % number for number in (1, 2, 3, 4, 5)])
 
     def test_full_queue(self) -> None:
         for number in range(64):

@@ -18,6 +18,7 @@ if TYPE_CHECKING:
 MAX_LINE = 990
 MAX_FIRST_LINES = 25
 MAX_FIRST_WIDTH = 300
+MAX_FIRST_BYTES = 1 << 14  # Of headers and first lines. Some messages take hours to read.
 PAGE_NAME = "changes.html"
 
 
@@ -108,7 +109,7 @@ def shortened(message: bytes, why: str) -> bytes:
     reason. It is made of the whole one, since that is all that a queue has."""
     import email
 
-    whole = email.message_from_bytes(message)
+    whole = email.message_from_bytes(message[:MAX_FIRST_BYTES])
     payload = text_part(whole).get_payload(decode=True)
     data = payload if isinstance(payload, bytes) else b""
     lines = [line[:MAX_FIRST_WIDTH] for line in data.split(b"\n")[:MAX_FIRST_LINES]]

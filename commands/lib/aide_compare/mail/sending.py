@@ -16,7 +16,7 @@ from contextlib import suppress
 from functools import partial
 
 from aide_compare.base.directories import Directory, closed_after, names_in, open_directory
-from aide_compare.base.ending import Fault, OSErrorAsFault, Status, say
+from aide_compare.base.ending import Fault, OSErrorAsFault, Status, fault_of, say
 from aide_compare.base.escapes import encoded, shown
 from aide_compare.base.files import in_memory
 from aide_compare.base.processes import run_on
@@ -102,12 +102,13 @@ def deliver(way: Transport, message: bytes) -> None:
     why = refusal_of(way, message)
     if why is None:
         return
-    if refusal_of(way, shortened(message, why)) is None:
+    short = shortened(message, why)
+    if refusal_of(way, short) is None:
         say(f"only a short mail was sent: {why}")
         return
     import email
 
-    subject = email.message_from_bytes(message)["Subject"]
+    subject = email.message_from_bytes(short)["Subject"]
     log = "there is no system log either"
     if alert(f"no mail could be sent ({why}): {subject}"):
         log = "the system log has a line at priority alert"
@@ -162,7 +163,7 @@ def send_all(path: str, way: Transport) -> None:
                 with OSErrorAsFault(what), suppress(FileNotFoundError):  # Another run has sent it.
                     deliver(way, waiting_mail(directory, name))
                     os.unlink(name, dir_fd=directory.fd)
-            except Fault as fault:
-                failed = fault
+            except Exception as error:  # Such as of a message that nobody can read.
+                failed = fault_of(error)
     if failed:
         raise failed
