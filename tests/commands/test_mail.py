@@ -233,6 +233,8 @@ class QueueTest(MailTest):
             self.fails("a full queue", words, b"64 mails wait already")
         alert = f"<33>aide-compare mail: 64 mails wait already in queue: none is sent; .*{COUNTS}"
         self.assertRegex(lines[0].decode(), alert)
+        os.symlink(".", self.path("link"))
+        self.fails("a link", ("old.db", "new.db", "--queue", "link"), b"link is a link: no mail")
 
     def test_units(self) -> None:
         """What must not come back: set-ID programs fail below filters, and 1 to 7 of the

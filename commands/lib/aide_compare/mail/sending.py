@@ -116,8 +116,11 @@ def deliver(way: Transport, message: bytes) -> None:
 
 
 def queue_transport(path: str) -> Transport:
-    """A way that keeps a message in this directory for the unit that sends it."""
+    """A way that keeps a message in this directory for the unit that sends it, to which a link may
+    lead elsewhere, as into a /tmp of its own."""
     with open_directory(path, make=True) as directory:
+        if os.path.islink(path):
+            raise Fault(Status.DEVICE, f"{shown(path)} is a link: no mail would be sent")
         if len(names_in(directory, MAIL)) >= MAX_WAITING:
             text = f"{MAX_WAITING} mails wait already in {shown(path)}: none is sent"
             raise Fault(Status.DEVICE, text)
