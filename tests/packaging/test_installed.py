@@ -141,7 +141,11 @@ class InstalledTest(InstallTest):
         for status in (0, 5, 18):
             stub = f'#!/bin/sh\necho "$0 $*" >> "{called}"\nexit {status}\n'
             self.write("bin/aide-compare", stub, 0o755)
+            pair = self.write("lib/aide-compare/daily/signed.db", "of another night")
             self.assertEqual(self.run_words([daily]), Answer(b"", b"", status))
+            self.assertFalse(os.path.exists(pair))
+        os.mkdir(pair)
+        self.assertEqual(self.run_words([daily]).status, 1, "it cannot be removed")
         os.remove(tool)
         self.assertEqual(self.run_words([daily]), Answer(b"", b"", 0))
         lines = self.read(called).decode().splitlines()
