@@ -144,8 +144,9 @@ class FleetNightsTest(CommandTest):
         self.assertIn("and was accepted, is silent", report, "after one host without a canary")
         loud = {host: 4 for host in LATE}
         listed = self.path(f"store/hosts/{CANARY}/listed")
-        os.utime(listed, (time.time() - 8 * DAY,) * 2)
-        self.assertEqual(fleet.night(), loud, "a week later")
+        for days in (8, -8):  # Or a clock was wrong.
+            os.utime(listed, (time.time() - days * DAY,) * 2)
+            self.assertEqual(fleet.night(), loud, "a week later")
         os.utime(listed)
         self.assertEqual(fleet.night(), {})
         self.write("etc/without", "/var/log/**\n/srv/**\n")

@@ -102,7 +102,7 @@ def listed_pair(directory: HostDirectory, rules: str) -> Pair | None:
     the same would be listed today."""
     with suppress(Fault, OSError, ValueError, TypeError):
         pair = Pair(*json.loads(read_file(directory.file(LISTED), MAX_TEXT)))
-        age = time.time() - os.stat(LISTED, dir_fd=directory.fd).st_mtime
+        age = abs(time.time() - os.stat(LISTED, dir_fd=directory.fd).st_mtime)
         if pair.rules == rules and age < MAX_LAG:
             return pair
     return None
