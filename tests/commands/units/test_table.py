@@ -5,6 +5,7 @@ from __future__ import annotations
 import fcntl
 import os
 import sqlite3
+from collections import Counter
 from unittest import mock
 
 from tests.commands.units.calls import ModuleTest, PlacesTest
@@ -63,6 +64,19 @@ class TableTest(ModuleTest):
         listed = [places[place - 1] for part in parts for place in part.places]
         # Behind ten of two directories are the others, as many of each again.
         self.assertEqual(listed, [place for place in places if place[0] == "1" or place[-1] < "5"])
+
+    def test_flood(self) -> None:
+        """What a user has in ever more directories takes no memory."""
+        table = table_of(*(change(b"/home/%d/x" % number, 1000) for number in range(999)))
+        counts: list[Counter[object]] = []
+
+        def counter() -> Counter[object]:
+            counts.append(Counter())
+            return counts[-1]
+
+        with mock.patch("aide_compare.show.digest.Counter", counter):
+            list(digest(table, MAIL._replace(height=40), lambda *_: ""))
+        self.assertLess(max(map(len, counts)), 99)
 
 
 def put(path: str, text: bytes) -> None:

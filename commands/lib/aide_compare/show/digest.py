@@ -171,7 +171,8 @@ def chosen(table: Table, level: int, owners: int, limit: int, room: Room) -> lis
         # Root is no party, and neither is a host.
         is_later = bool(party) and spent[party] >= room.party
         turn = (site, is_later)
-        if turns[turn] == room.few[level]:
+        is_full = is_later and len(kept[True, False]) == limit
+        if is_full or turns[turn] == room.few[level]:
             continue
         turns[turn] += 1
         spent[party] += 1
