@@ -5,20 +5,15 @@ import os
 import re
 import time
 from collections.abc import Iterable, Sequence
-from typing import TYPE_CHECKING
 
 from aide_compare.base.escapes import encoded, shown_lines
 from aide_compare.base.words import KINDS
 from aide_compare.compare.state import State, not_compared
 
-if TYPE_CHECKING:
-    from email.message import Message
-
 # A longer line needs quoted-printable, whose lines have the length of the policy.
 MAX_LINE = 990
 MAX_FIRST_LINES = 25
-MAX_FIRST_WIDTH = 300
-MAX_FIRST_BYTES = 1 << 14  # Of headers and first lines. Some messages take hours to read.
+MAX_FIRST_BYTES = 1 << 13  # Of headers and first lines. Some messages take hours to read.
 PAGE_NAME = "changes.html"
 
 
@@ -96,23 +91,16 @@ def build(address: str, subject: str, text: bytes, page: bytes | None = None) ->
     return message.as_bytes(policy=policy.clone(max_line_length=None))
 
 
-def text_part(message: Message) -> Message:
-    """The part of a mail that is its text, or else the whole mail."""
-    for part in message.walk():
-        if part.get_content_type() == "text/plain":
-            return part
-    return message
-
-
 def shortened(message: bytes, why: str) -> bytes:
     """A short mail in the place of one that was refused: its headers, its first lines, and the
     reason. It is made of the whole one, since that is all that a queue has."""
     import email
 
     whole = email.message_from_bytes(message[:MAX_FIRST_BYTES])
-    payload = text_part(whole).get_payload(decode=True)
+    texts = (part for part in whole.walk() if part.get_content_type() == "text/plain")
+    payload = next(texts, whole).get_payload(decode=True)
     data = payload if isinstance(payload, bytes) else b""
-    lines = [line[:MAX_FIRST_WIDTH] for line in data.split(b"\n")[:MAX_FIRST_LINES]]
+    lines = data.split(b"\n")[:MAX_FIRST_LINES]
     reason = f"The mail of {len(message)} bytes was refused: {why}\n"
     text = clean(f"{reason}The first lines of it:\n\n") + clean(b"\n".join(lines) + b"\n")
     return build(str(whole["To"]), str(whole["Subject"]), text)
