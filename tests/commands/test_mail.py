@@ -250,6 +250,8 @@ class QueueTest(MailTest):
         ends = [f"On{end}=aide-compare-{unit}.service" for end, unit in ENDS.items()]
         self.assertLessEqual(set(ends), set(daily))
         self.assertFalse([line for line in daily if line.startswith("SuccessExitStatus")])
+        failed = read("contrib/systemd/aide-compare-failed.service")
+        self.assertNotRegex(failed, "(?m)^StateDirectory", "which may be the failure")
         limits, fleet = (
             read(f"contrib/{name}.service").partition("\nCapability")[2]
             for name in ("systemd/aide-compare-mail", "fleet/aide-compare-fleet")
