@@ -13,6 +13,7 @@ from tests.commands.units.streams import fields_of, line_of
 
 from aide_compare.base import rows
 from aide_compare.base.directories import closed_after
+from aide_compare.base.ending import write_blocks
 from aide_compare.base.files import blocks_of, in_memory
 from aide_compare.base.paths import key_of_path
 from aide_compare.base.words import SEVERITIES
@@ -96,6 +97,8 @@ class OutputsTest(PlacesTest):
             fcntl.fcntl(descriptor, fcntl.F_SETFD, 0)
         self.gives(None, put, f"/dev/fd/{writing}", b"text")
         self.assertEqual(os.read(reading, 9), b"text")
+        with mock.patch.object(os, "close", side_effect=OSError(28, "No space left")):
+            self.fails(18, "No space left", write_blocks, writing, [b"x"])
         self.fails(18, "has not opened it", put, f"/dev/fd/{reading}", b"x")
         os.close(reading)
         self.fails(18, "cannot write it /dev/fd", put, f"/dev/fd/{writing}", b"x")

@@ -79,7 +79,8 @@ def write_all(descriptor: int, data: bytes | bytearray | memoryview) -> None:
 def write_blocks(
     descriptor: int, parts: Iterable[bytes], words: str = "cannot write standard output"
 ) -> None:
-    """Writes many parts, some at a time, past Python's own buffers."""
+    """Writes many parts, some at a time, past Python's own buffers. A file system of the network
+    may say only when a descriptor is closed that its disk is full."""
     waiting = bytearray()
     with OSErrorAsFault(words):
         for part in parts:
@@ -88,6 +89,7 @@ def write_blocks(
                 write_all(descriptor, waiting)
                 waiting = bytearray()
         write_all(descriptor, waiting)
+        os.close(os.dup(descriptor))
 
 
 def tell(*lines: str) -> None:

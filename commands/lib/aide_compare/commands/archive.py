@@ -6,9 +6,9 @@ import os
 from collections.abc import Container, Iterable, Sequence
 
 from aide_compare.base.database import ABSENT, refuse_terminal
-from aide_compare.base.ending import Fault, Status, say, usage_fault
+from aide_compare.base.ending import Fault, Status, say, usage_fault, write_blocks
 from aide_compare.base.escapes import shown
-from aide_compare.base.files import copy_file, in_memory, trusted_text
+from aide_compare.base.files import blocks_of, in_memory, trusted_text
 from aide_compare.base.options import MAX_SIZE, QUIET, USER, Asked, Operand, field, option
 from aide_compare.base.parser import Help, read
 from aide_compare.base.paths import key_of_path, path_of, unescaped
@@ -235,5 +235,5 @@ def main(arguments: Sequence[str]) -> int:
     if not request.is_quiet:
         say(f"applied: {counted(len(upgrades.files), 'file')}")
     if not request.output:
-        copy_file(made, 1)
+        write_blocks(1, blocks_of(made))
     return Status.OK

@@ -6,7 +6,7 @@ import os
 from collections.abc import Callable, Iterable
 from contextlib import suppress
 
-from aide_compare.base.ending import Fault, OSErrorAsFault, Status, write_all
+from aide_compare.base.ending import Fault, Status, write_all, write_blocks
 from aide_compare.base.escapes import shown
 from aide_compare.base.files import PRIVATE, given_descriptor
 from aide_compare.base.replacement import Replacement
@@ -48,13 +48,7 @@ def file_output(path: str, what: str, mode: int) -> Output:
 
 def stream_output(descriptor: int, words: str) -> Output:
     """A descriptor. `words` say what failed if nothing can be written there."""
-
-    def commit(blocks: Iterable[bytes]) -> None:
-        with OSErrorAsFault(words):
-            for block in blocks:
-                write_all(descriptor, block)
-
-    return commit
+    return lambda blocks: write_blocks(descriptor, blocks, words)
 
 
 def open_output(path: str, what: str) -> Output:
