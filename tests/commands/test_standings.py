@@ -189,6 +189,8 @@ class StandingsTest(mail.MailTest):
         self.assertIsNotNone(mail.sent(self), "a mail then")
         answer = self.call("aide-compare page", "host-old.db", "host-new.db")
         self.expect("the page then", answer, 4, b"<pre>Differ", want)
+        self.write("odd.db", self.read("host-new.db").replace(b"\n/", b"\n/\xc2\x9b/"))
+        self.answered(3, b": /\\302\\233/srv/same\n", want, TOOL, "host-old.db", "odd.db")
         self.replaced = before
         self.after_import("lines.change", "Counts.fits\nCounts.fits = lambda *_: False\n")
         said = b"the counts of the standings are not those of the changes"

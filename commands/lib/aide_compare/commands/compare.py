@@ -36,6 +36,7 @@ from aide_compare.compare.state import read_state
 from aide_compare.compare.unpack import Opened
 from aide_compare.compare.work import FAILURES, compare_opened, failed_comparison, open_databases
 from aide_compare.lines.change import Counts
+from aide_compare.mail.message import clean
 from aide_compare.show.notes import no_difference, told_of
 
 if TYPE_CHECKING:
@@ -243,7 +244,8 @@ class Printer:
             from aide_compare.show.brief import brief_of
 
             return [brief_of(judged)]
-        return blocks_of(report_of(comparison))
+        blocks = blocks_of(report_of(comparison))
+        return blocks if self.form == REPORT else map(clean, blocks)
 
     def _notes(self, comparison: Comparison, judged: Judged | None) -> Iterable[bytes]:
         """What is not in a report: it names only the descriptors of the databases."""
