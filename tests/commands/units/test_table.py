@@ -69,13 +69,8 @@ class TableTest(ModuleTest):
     def test_flood(self) -> None:
         """What a user has in ever more directories takes no memory."""
         table = table_of(*(change(b"/home/%d/x" % number, 1000) for number in range(999)))
-        counts: list[Counter[object]] = []
-
-        def counter() -> Counter[object]:
-            counts.append(Counter())
-            return counts[-1]
-
-        with mock.patch("aide_compare.show.digest.Counter", counter):
+        counts = [Counter[object](), Counter[object]()]
+        with mock.patch("aide_compare.show.digest.Counter", side_effect=counts):
             list(digest(table, MAIL._replace(height=40), lambda *_: ""))
         self.assertLess(max(map(len, counts)), 99)
 

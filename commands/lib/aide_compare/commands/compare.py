@@ -5,6 +5,7 @@ import os
 import re
 from collections.abc import Iterable, Sequence
 from contextlib import suppress
+from functools import partial
 from typing import TYPE_CHECKING
 
 from aide_compare.base.ending import Fault, write_blocks
@@ -29,7 +30,6 @@ from aide_compare.compare.outputs import (
     file_output,
     notes,
     open_output,
-    stream_output,
 )
 from aide_compare.compare.report import report_of
 from aide_compare.compare.state import read_state
@@ -221,7 +221,8 @@ class Printer:
         """The comparison that prints so."""
         before = [Row(notes, self._notes)]
         if self.is_printed:
-            before.append(Row(stream_output(STDOUT, "cannot write the report"), self._printed))
+            place = partial(write_blocks, STDOUT, words="cannot write the report")
+            before.append(Row(place, self._printed))
         after = [Row(notes, self._failure, of_failure=True)]
         judges = self.form != REPORT or self.request.paths
         return ComparisonJob(self.request, before, after, bool(judges))

@@ -5,6 +5,7 @@ import fcntl
 import os
 from collections.abc import Callable, Iterable
 from contextlib import suppress
+from functools import partial
 
 from aide_compare.base.ending import Fault, Status, write_all, write_blocks
 from aide_compare.base.escapes import shown
@@ -46,11 +47,6 @@ def file_output(path: str, what: str, mode: int) -> Output:
     return Replacement(path, mode, what, makes_directory=False).begin().commit
 
 
-def stream_output(descriptor: int, words: str) -> Output:
-    """A descriptor. `words` say what failed if nothing can be written there."""
-    return lambda blocks: write_blocks(descriptor, blocks, words)
-
-
 def open_output(path: str, what: str) -> Output:
     """The place that a path means; a Fault if nothing can be written there."""
     descriptor = descriptor_of(path)
@@ -59,4 +55,4 @@ def open_output(path: str, what: str) -> Output:
     words = f"cannot write {what} {shown(path)}"
     if not _is_open_for_writing(descriptor):
         raise Fault(Status.DEVICE, f"{words}: the caller has not opened it for writing")
-    return stream_output(descriptor, words)
+    return partial(write_blocks, descriptor, words=words)

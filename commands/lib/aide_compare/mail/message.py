@@ -98,8 +98,7 @@ def shortened(message: bytes, why: str) -> bytes:
 
     whole = email.message_from_bytes(message[:MAX_FIRST_BYTES])
     texts = (part for part in whole.walk() if part.get_content_type() == "text/plain")
-    payload = next(texts, whole).get_payload(decode=True)
-    data = payload if isinstance(payload, bytes) else b""
+    data = bytes(next(texts, whole).get_payload(decode=True) or b"")
     lines = data.split(b"\n")[:MAX_FIRST_LINES]
     reason = f"The mail of {len(message)} bytes was refused: {why}\n"
     text = clean(f"{reason}The first lines of it:\n\n") + clean(b"\n".join(lines) + b"\n")
