@@ -9,6 +9,7 @@ from __future__ import annotations
 import base64
 import re
 from contextlib import suppress
+from functools import lru_cache
 from typing import Any, NamedTuple, Optional
 
 from aide_compare.base.directories import OTHERS_WRITE
@@ -193,20 +194,25 @@ def rights_of(fields: Object) -> Sides:
     return old, new
 
 
+@lru_cache(maxsize=256)
+def not_differing(letters: str) -> set[str]:
+    """The members of a side whose rights did not differ, by the summary string."""
+    names = (name for name, place in PLACES.items() if letters[place] in NO_DIFFERENCE)
+    return {name + end for name in names for end in ("", "_hex")}
+
+
 def differing(fields: Object) -> Object:
     """The object of a line without the rights that did not differ."""
     letters = fields.get("summary", "")
-    if fields.get("kind") != "changed" or len(letters) <= max(PLACES.values()):
+    if fields.get("kind") != "changed" or len(letters) <= PLACES["Caps"]:
         return fields
     old = dict(fields.get("old", {}))
     new = dict(fields.get("new", {}))
-    names = {name for name, place in PLACES.items() if letters[place] in NO_DIFFERENCE}
     if not letters.startswith(OTHER_TYPE) and "Type" in old and "Type" in new:
-        names.add("Type")
+        del old["Type"], new["Type"]
     for side in (old, new):
-        for name in list(side):
-            if name.removesuffix("_hex") in names:
-                del side[name]
+        for name in side.keys() & not_differing(letters):
+            del side[name]
     return {**fields, "old": old, "new": new}
 
 
