@@ -4,7 +4,7 @@ from __future__ import annotations
 
 import os
 import re
-from collections.abc import Iterator, Mapping
+from collections.abc import Iterable, Iterator, Mapping, Sequence
 
 from aide_compare.base.database import MAX_LINE, Kind, Layout
 from aide_compare.base.escapes import shown
@@ -13,7 +13,6 @@ from aide_compare.compare.configuration import ConfigurationTexts
 from aide_compare.compare.unpack import Copy
 
 LINE = rb"aide: ((?:trusted )?(?:old|new) database|config|after):(\d+): (.*)"
-SKIPPED = rb"(?m)^aide: (old|new) database: column ([0-9]{1,2}) skipped$"
 # The comment in which AIDE dates a database, before its first entry; the zone since 0.19.
 DATED = rb"(?m)^# Time of generation was ([0-9: -]{19})(| [+-][0-9]{4})$"
 BLOCK = 1 << 20
@@ -93,20 +92,8 @@ def hints_of(
     return [name, f"line {number}: {shown(line, 200)}"]
 
 
-def skipped_in(errors: bytes, copies: Mapping[str, Copy]) -> dict[str, list[str]]:
-    """By side the names of the columns that the program says it skipped; their numbers where the
-    first lines name none."""
-    skipped = re.findall(SKIPPED, errors)
-    names = {}
-    for side in ("old", "new"):
-        numbers = [int(number) for which, number in skipped if which.decode() == side]
-        if numbers:
-            names[side] = _column_names(copies[side].fd, numbers)
-    return names
-
-
-def _column_names(database: int, numbers: list[int]) -> list[str]:
-    """The names of columns by their numbers."""
+def column_names(database: int, numbers: Iterable[int]) -> list[str]:
+    """The names of columns by their numbers; these where the first lines name none."""
     layout = Layout()
     for line in os.pread(database, MAX_HEAD, 0).split(b"\n"):
         if layout.kind_of(line) is Kind.COLUMNS:
@@ -120,7 +107,7 @@ def _column_names(database: int, numbers: list[int]) -> list[str]:
     return names
 
 
-def column_notes(skipped: Mapping[str, list[str]]) -> Iterator[str]:
+def column_notes(skipped: Mapping[str, Sequence[str]]) -> Iterator[str]:
     """A line for each column, with the side if it is one of a single database."""
     for name in dict.fromkeys(name for names in skipped.values() for name in names):
         sides = [side for side, names in skipped.items() if name in names]

@@ -16,7 +16,8 @@ from aide_compare.base.words import SIDES, TRUSTED_SIDES, age_in_words, counted,
 from aide_compare.compare.asking import Settings, ask_for_lines, odd_answer, settings_of
 from aide_compare.compare.comparison import Comparison, Lines, Refusal, ComparisonInput
 from aide_compare.compare.configuration import ConfigurationTexts, configuration_in
-from aide_compare.compare.hints import column_notes, equal_notes, hints_of, order_notes, skipped_in
+from aide_compare.compare.hints import column_names, column_notes, equal_notes, hints_of
+from aide_compare.compare.hints import order_notes
 from aide_compare.compare.unpack import Opened, copy_opened, open_database
 from aide_compare.lines.reader import ODD, end_of
 
@@ -52,9 +53,8 @@ def compare_opened(comparison: Comparison, opened: Sequence[Opened]) -> None:
             comparison.copies[database.side] = copy_opened(database, comparison.request.max_size)
         comparison.copies.update(comparison.request.copies)
         lines = read_lines(comparison)
-        skipped = skipped_in(comparison.errors, comparison.copies)
-        comparison.skipped = skipped
-        comparison.notes += [*column_notes(skipped), *order_notes(comparison.copies)]
+        comparison.notes += column_notes(comparison.skipped)
+        comparison.notes += order_notes(comparison.copies)
         comparison.notes += equal_notes(comparison.copies)
         if any(comparison.texts) and lines.end.others == 0:
             comparison.notes += ignored_notes(settings_of(comparison.texts))
@@ -101,11 +101,14 @@ def read_lines(comparison: Comparison) -> Lines:
         fields = json.loads(tail.last_line())
         end = end_of(fields)
         digests = {side: str(fields[side]["sha256"]) for side in databases}
+        skipped = {side: fields[side]["skipped"] for side in SIDES if fields[side]["skipped"]}
+        names = {side: column_names(databases[side], skipped[side]) for side in skipped}
     except ODD:
         raise odd_answer(find_installed(LINES), answer) from None
     if end.status != answer.status:
         raise odd_answer(find_installed(LINES), answer)
     comparison.status = answer.status
+    comparison.skipped = names
     # The program has read what it has compared, so it knows the digests of whole databases.
     for side, copy in comparison.copies.items():
         copy.digest = copy.digest or digests[side]
