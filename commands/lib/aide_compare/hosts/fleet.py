@@ -16,7 +16,7 @@ from aide_compare.changes.table import Table
 from aide_compare.changes.weighing import known_of
 from aide_compare.hosts.report_values import SharedChange
 from aide_compare.lines.attributes import FORMS
-from aide_compare.lines.change import Fields, change_of
+from aide_compare.lines.change import Fields
 from aide_compare.lines.reader import HEX, Outline
 from aide_compare.lines.rights import differing
 
@@ -83,21 +83,24 @@ class Fleet:
         known = form.value(known_of)
         directory, _, name = path.rpartition(b"/")
         rank = self.severity.ranks(directory, known.held)(name)
-        change = change_of(json.loads(line))
+        # That it says a change is known by its form.
+        fields = differing(json.loads(line))
+        word = fields.get("type", "Entry")
         own = OWN
-        if change.type == "Directory":
+        if word == "Directory":
             own = OWN | {"Size"}  # The size of a directory is one of these values, too.
-        labels = {*change.old, *change.new}
-        what = (path, form.kind, change.type, rank // RANKS, known.owners)
+        old, new = (fields.get(side, {}) for side in SIDES)
+        labels = {*old, *new}
+        what = (path, form.kind, word, rank // RANKS, known.owners)
         row = (
             host,
             key,
             directory,
-            digest_of(what, sorted(labels - own), without(change.new, own)),
+            digest_of(what, sorted(labels - own), without(new, own)),
             form.kind,
             known.owners,
             rank,
-            digest_of(without(change.old, own)),
+            digest_of(without(old, own)),
             ",".join(labels & own),
             line,
         )
