@@ -56,7 +56,7 @@ class Forked:
             stdout=subprocess.PIPE,
             text=True,
         )
-        sandbox.addCleanup(self.end)
+        sandbox.addCleanup(self.process.communicate)
 
     def call(self, *words: str, **environment: Any) -> Answer:
         """What the command answers these words, with further variables of the environment."""
@@ -67,6 +67,3 @@ class Forked:
         self.process.stdin.flush()
         status = int(self.process.stdout.readline())
         return Answer(self.sandbox.read("output"), self.sandbox.read("errors"), status)
-
-    def end(self) -> None:
-        self.process.communicate()

@@ -4,34 +4,26 @@ from __future__ import annotations
 import json
 import os
 import re
-import subprocess
-import sys
+import shutil
 import time
+import zlib
 from typing import Any
+
+from tests.lib import preload
+from tests.lib.answer import Answer
 
 from .forked import Forked
 from .units.calls import misused
 from .sandbox import AS_NOBODY, NOBODY, UMASK
 from .states import NOTHING, StateTest
+from .test_accept_attacks import FOR_GOOD, FOR_THE_CALL, moments
 
 from aide_compare.lines.change import Counts
 
 STATUS = "aide-compare status"
 METRICS = STATUS + " --format prometheus"
-# The owner of a folder puts links in the place of every name there, in a loop.
-LINKS = f"""import os, sys
-{AS_NOBODY}
-folder, prey = sys.argv[1:]
-print("begun", flush=True)
-while True:
-    found = [each for each in os.listdir(folder) if each.startswith((".aide", "aide.prom"))]
-    for name in ["aide.prom", ".aide.prom.part"] + found:
-        try:
-            os.symlink(prey, folder + "/mine")
-            os.rename(folder + "/mine", folder + "/" + name)
-        except OSError:
-            pass
-"""
+# The names in the folder of the metrics: the last one is there for a moment.
+NAMES = ("aide.prom", f".aide-compare-{zlib.crc32(b'aide.prom'):08x}")
 
 
 class StatusTest(StateTest):
@@ -149,34 +141,37 @@ class StatusTest(StateTest):
         self.refused(18, b"cannot open the new", "aide-compare", "./old.db", "./gone.db")
         self.assertIn("the new database", self.state()["error"], "they name both")
 
-    def test_links(self) -> None:
-        """The owner of the folder of the metrics puts links to a file of root in place of every
-        name there, in a loop."""
-        self.needs_root()
-        self.put()
-        folder, prey = self.path("exporter"), self.write("prey", "of root\n", 0o600)
-        os.mkdir(folder)
-        os.chown(folder, NOBODY, NOBODY)
-        command = Forked(self, METRICS)
-        words = [sys.executable, "-IS", "-c", LINKS, folder, prey]
-        attacker = subprocess.Popen(words, stdout=subprocess.PIPE)
-        try:
-            assert attacker.stdout
-            attacker.stdout.readline()
-            written = ("--state", "state", "exporter/aide.prom")
-            statuses = {command.call(*written).status for _ in range(200)}
-        finally:
-            attacker.kill()
-            attacker.communicate()
+    def linked(self, command: Forked, name: str, **at: int) -> Answer:
+        """What writing the metrics answers when another user, in his folder, puts a link to a file
+        of root in the place of a name at a call. The file stays as it is."""
+        prey = self.write("prey", "of root\n", 0o600)
+        shutil.rmtree(self.path("exporter"), ignore_errors=True)
+        own = self.write("exporter/aide.prom", "former\n")
+        os.symlink(prey, self.path("exporter/link"))
+        for path in (own, self.path("exporter")):
+            os.chown(path, NOBODY, NOBODY)
+        names = {"AT_ONE": self.path("exporter", name), "AT_OTHER": self.path("exporter/link")}
+        done = command.call("--state", "state", "exporter/aide.prom", **names, **at)
         found = os.stat(prey)
         kept = (self.read("prey"), found.st_mode & 0o777, found.st_uid)
-        self.assertEqual(kept, (b"of root\n", 0o600, 0), "200 rounds of links")
-        self.assertLessEqual(statuses, {0, 18})
-        for name in os.listdir(folder):
-            os.remove(folder + "/" + name)
-        answer = self.ask(METRICS, "exporter/aide.prom")
-        self.expect("metrics in a folder of another user", answer, 0, b"", b"")
-        found = os.stat(folder + "/aide.prom")
+        self.assertEqual(kept, (b"of root\n", 0o600, 0), (name, at))
+        return done
+
+    def test_links(self) -> None:
+        """The owner of the folder of the metrics puts links in the place of names at each call."""
+        self.needs_root()
+        self.put()
+        command = Forked(self, METRICS, LD_PRELOAD=preload.built("at_call.c", self.path("stubs")))
+        calls = self.linked(command, NAMES[0], AT_NOTES=2).error_text.split()
+        self.assertIn("renameat", calls)
+        statuses = {
+            self.linked(command, name, AT_NUMBER=number, AT_WAY=way).status
+            for name in NAMES
+            for number, way in moments(calls, (FOR_THE_CALL, FOR_GOOD))
+        }
+        self.assertEqual(statuses, {0, 18})
+        self.linked(command, NAMES[0])
+        found = os.stat(self.path("exporter/aide.prom"))
         self.assertEqual((found.st_uid, found.st_mode & 0o777), (NOBODY, 0o644))
 
 
