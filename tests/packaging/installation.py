@@ -84,7 +84,7 @@ class InstallTest(Sources, ScratchTest):
     have."""
 
     shared, newer = Sources(), [""]
-    program = source = version = plain_path = ""
+    program = source = small = version = plain_path = ""
 
     @classmethod
     def setUpClass(cls) -> None:
@@ -94,6 +94,7 @@ class InstallTest(Sources, ScratchTest):
         programs = (cls.program, lines_program_of(cls.program))
         cls.newer = [cls.shared.make_newer(one) for one in programs]
         cls.source = cls.shared.copy("source")
+        cls.small = cls.shared.small_copy("small", "commands/lib", "docs")
         cls.version = read("VERSION").strip()
         cls.plain_path = cls.shared.make_plain_path()
 

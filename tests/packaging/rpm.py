@@ -29,25 +29,17 @@ def try_life(trial: InstallTest, package: str) -> None:
     wanted = {"usr/" + name for name in set(files(tree(trial.first()))) - NOT} | OWN
     wanted = {name + ".gz" if name.startswith("usr/share/man/") else name for name in wanted}
     wanted = {name for name in wanted if "__pycache__" not in name}
-    there = set(files(found))
-    trial.assertEqual(
-        there, wanted, ("rpm installs what packaging/install installs", sorted(there ^ wanted)[:9])
-    )
+    differing = set(files(found)) ^ wanted
+    trial.assertEqual(differing, set(), "rpm installs what packaging/install installs")
     units = {name: text for name, text in texts(found).items() if name.startswith(UNITS)}
     service = units.get(UNITS + "aide-compare.service", "")
     for unit in ("", "-mail", "-failed"):
         text = units.get(UNITS + "aide-compare%s.service" % unit, "")
-        trial.assertTrue(
-            "\nUser=root\n" in text and "_aide" not in text,
-            ("the user of aide-compare%s.service" % unit, text),
-        )
+        trial.assertIn("\nUser=root\n", text, unit)
+        trial.assertNotIn("_aide", text, unit)
     for word in ("Wants", "After"):
-        trial.assertIn(
-            "\n%s=aide-compare-database.service\n" % word, service, "AIDE runs before: " + word
-        )
-    trial.assertFalse(
-        any("=dailyaidecheck" in text for text in units.values()), "no unit waits for one of Debian"
-    )
+        trial.assertIn(f"\n{word}=aide-compare-database.service\n", service, "AIDE runs before")
+    trial.assertNotIn("=dailyaidecheck", "".join(units.values()), "no unit waits for Debian's")
     rpm("--verify", "--nodeps", "aide-compare")
     rpm("--erase", "--noscripts", "aide-compare")
     left = [name for name in files(tree(root)) if not name.startswith("var/")]

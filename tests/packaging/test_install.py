@@ -143,7 +143,7 @@ class InstallingTest(InstallTest):
         self.write("shared/etc/kept", "another's file\n")
         os.makedirs(self.path("shared/usr/local/share/man/man1"))
         before = tree(folder)
-        self.installed("shared")
+        self.run_install(folder, source=self.small)
         mine = f"usr/local/{DOCUMENTS}/examples/mine"
         self.write("shared/" + mine, "an administrator's\n")
         outside = self.write("outside", "another's file\n")
@@ -184,9 +184,10 @@ class InstallingTest(InstallTest):
         shut = self.path("shut/usr")
         os.makedirs(shut)
         os.chmod(shut, 0o555)
+        more = {"source": self.small, **rights()}
         for done in (
-            self.run_install(self.path("shut"), **rights()),
-            self.install("--destdir", self.path("shut"), env=self.plain(), **rights()),
+            self.run_install(self.path("shut"), **more),
+            self.install("--destdir", self.path("shut"), env=self.plain(), **more),
         ):
             self.refuses("no rights", shut + "/local", done, "cannot write below", "--prefix")
 
@@ -194,7 +195,7 @@ class InstallingTest(InstallTest):
         for name, path in (("folder", "bin/aide-compare/x"), ("file", "share")):
             self.write(f"{name}/usr/local/{path}", "")
             before = tree(self.path(name))
-            done = self.run_install(self.path(name))
+            done = self.run_install(self.path(name), source=self.small)
             self.assertEqual((done.status, "is in the way" in done.error_text), (1, True), done)
             self.assertEqual(tree(self.path(name)), before)
 
@@ -218,7 +219,7 @@ class InstallingTest(InstallTest):
         os.rename(alone, alone + "_lines")
         done = self.install("--destdir", folder, "--program", alone)
         self.refuses("one of two programs", folder, done, "there is no program " + alone)
-        done = self.install("--destdir", folder, "--lines-only", "--program", alone)
+        done = self.run_install(folder, "--lines-only", "--program", alone, source=self.small)
         self.assertEqual((done.status, done.error_text), (0, ""), done)
         done = self.install("--help")
         self.assertEqual((done.status, "--uninstall" in done.output_text), (0, True), done)

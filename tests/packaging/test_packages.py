@@ -16,7 +16,7 @@ from tests.packaging import debian, rpm
 from tests.packaging.test_install import LINK
 from tests.packaging.installation import InstallTest, files, rights, texts, tree
 
-FIXED = 1767225600
+FIXED, LATE = 1767225600, 4000000000
 DOCUMENTS = "usr/share/doc/aide-compare/"
 FIELDS = {
     "Package": "aide-compare",
@@ -33,15 +33,6 @@ CONFIGURATION = {
 }
 
 
-def make(trial: InstallTest, name: str, **more: Any) -> tuple[Answer, dict[str, bytes]]:
-    """Runs packaging/make_package into a new folder: status, outputs, and the files there."""
-    script = os.path.join(trial.source, "packaging", "make_package")
-    words = ["sh", script, "--program", trial.program, "--output", trial.path(name)]
-    done = trial.run_words(words, **{"cwd": trial.root, **more})
-    found = files(tree(trial.path(name)))
-    return done, {path: data for path, (_, data) in found.items()}
-
-
 def owners_and_times(archive: tarfile.TarFile) -> set[tuple[int, int, int]]:
     return {(one.uid, one.gid, int(one.mtime)) for one in archive.getmembers()}
 
@@ -53,22 +44,26 @@ def without_manifest(trial: InstallTest) -> dict[str, Any]:
     return installed
 
 
-def try_tarball(trial: InstallTest, data: bytes, time: int) -> None:
-    """The tarball has the installed files, with no owner, no user's time and no folder."""
-    top = f"aide-compare-{trial.version}-x86_64-linux/"
-    given = {}
+def files_of(trial: InstallTest, data: bytes, time: int) -> dict[str, tuple[int, bytes]]:
+    """The files of a tarball, which has no owner, no user's time and no folder."""
+    found = {}
     with tarfile.open(fileobj=io.BytesIO(data)) as archive:
-        names = archive.getnames()
+        trial.assertEqual(owners_and_times(archive), {(0, 0, time)})
         for one in archive.getmembers():
             content = archive.extractfile(one)
             assert content, one
-            given[one.name[len(top) :]] = (one.mode, content.read())
-        trial.assertEqual(owners_and_times(archive), {(0, 0, time)})
-    installed = without_manifest(trial)
+            found[one.name] = (one.mode, content.read())
+    return found
+
+
+def try_tarball(trial: InstallTest, data: bytes) -> None:
+    """The tarball has the installed files below one folder."""
+    top = f"aide-compare-{trial.version}-x86_64-linux/"
+    given = files_of(trial, data, FIXED)
+    installed = {top + name: file for name, file in without_manifest(trial).items()}
     trial.assertEqual(given.keys() ^ installed.keys(), set())
     trial.assertTrue(given == installed, "the tarball has what is installed")
-    trial.assertTrue(all(name.startswith(top) for name in names), "files below one folder")
-    trial.assertEqual(names, sorted(names), "the tarball is sorted")
+    trial.assertEqual(list(given), sorted(given), "the tarball is sorted")
     trial.assertEqual(data[4:8], b"\0\0\0\0", "gzip's own time")
 
 
@@ -95,7 +90,7 @@ def name_in_package(name: str) -> str:
     return "usr/" + name.replace("aide-compare/CHANGELOG.md", "aide-compare/changelog.gz")
 
 
-def try_debian(trial: InstallTest, path: str, time: int) -> None:
+def try_debian(trial: InstallTest, path: str) -> None:
     """The Debian package: its fields, its sums, its times, and nothing of /usr/local."""
     done = trial.run_words(["dpkg-deb", "-f", path])
     fields = dict(re.findall(r"^([\w-]+): (.*)$", done.output_text, re.M))
@@ -124,6 +119,11 @@ def try_debian(trial: InstallTest, path: str, time: int) -> None:
     named |= set(map(name_in_package, without_manifest(trial)))
     trial.assertEqual(kept.keys() ^ named, set(), "the package has what is installed")
     try_texts(trial, texts(found), kept)
+    try_members(trial, path, FIXED)
+
+
+def try_members(trial: InstallTest, path: str, time: int) -> None:
+    """What the Debian package has is root's and has this time, and anybody may read it."""
     whole = trial.run_words(["dpkg-deb", "--fsys-tarfile", path]).output
     with tarfile.open(fileobj=io.BytesIO(whole)) as archive:
         trial.assertEqual(owners_and_times(archive), {(0, 0, time)})
@@ -163,14 +163,19 @@ class PackagesTest(InstallTest):
         self.of_rpm = f"aide-compare-{self.version}-1.x86_64.rpm"
         self.more = {key: os.environ[key] for key in os.environ if key != "SOURCE_DATE_EPOCH"}
 
-    def makes(self, name: str, **more: Any) -> dict[str, bytes]:
-        """The packages that are made without a fault."""
-        done, found = make(self, name, **{"env": self.more, **more})
-        self.assertEqual(done.status, 0, done)
-        return found
+    def pack(
+        self, name: str, source: str = "", program: str = "", status: int = 0, **more: Any
+    ) -> tuple[str, dict[str, bytes]]:
+        """Runs packaging/make_package into a new folder: what it prints, and the files there."""
+        script = os.path.join(source or self.source, "packaging", "make_package")
+        words = ["sh", script, "--program", program or self.program, "--output", self.path(name)]
+        done = self.run_words(words, **{"cwd": self.root, "env": self.more, **more})
+        self.assertEqual(done.status, status, done)
+        found = files(tree(self.path(name)))
+        return done.output_text, {path: data for path, (_, data) in found.items()}
 
     def test_packages(self) -> None:
-        first = self.makes("packages")
+        first = self.pack("packages")[1]
         names = {self.tarball}
         names |= {self.package} if shutil.which("dpkg-deb") else set()
         names |= {self.of_rpm} if shutil.which("rpmbuild") else set()
@@ -178,26 +183,34 @@ class PackagesTest(InstallTest):
         sums = sorted(f"{hashlib.sha256(first[name]).hexdigest()}  {name}" for name in names)
         self.assertEqual(sorted(first["SHA256SUMS"].decode().splitlines()), sums)
         self.try_elsewhere(first)
-        try_tarball(self, first[self.tarball], FIXED)
+        try_tarball(self, first[self.tarball])
         try_unpacking(self, self.path("packages", self.tarball))
-        dated = self.makes("dated", env={**self.more, "SOURCE_DATE_EPOCH": "4000000000"})
-        try_tarball(self, dated[self.tarball], 4000000000)
-        done, none = make(self, "undated", env={**self.more, "SOURCE_DATE_EPOCH": "today"})
-        self.assertEqual((done.status, none), (1, {}), done)
+        self.try_times()
         with self.subTest("Debian"):
             self.needs("dpkg-deb")
             package = self.path("packages", self.package)
-            try_debian(self, package, FIXED)
-            try_debian(self, self.path("dated", self.package), 4000000000)
+            try_debian(self, package)
+            try_members(self, self.path("dated", self.package), LATE)
             debian.try_texts(self, package + ".tree")
             debian.try_stop(self, package + ".tree")
             debian.try_life(self, package)
         with self.subTest("rpm"):
             rpm.try_life(self, self.path("packages", self.of_rpm))
-        done, least = make(self, "least", env={**self.more, "PATH": self.plain_path})
-        self.assertEqual((done.status, set(least)), (0, {self.tarball, "SHA256SUMS"}), done)
-        self.assertIn("no Debian package", done.output_text)
-        self.assertTrue(least[self.tarball] == first[self.tarball], "without dpkg-deb")
+
+    def try_times(self) -> None:
+        """Of few files and small programs: a time that is given, and a tarball made without git
+        and dpkg-deb."""
+        few: dict[str, Any] = {"source": self.small, "program": self.write("aide", "a program\n")}
+        self.write("aide_lines", "another program\n")
+        late = {**self.more, "SOURCE_DATE_EPOCH": str(LATE)}
+        dated = self.pack("dated", **few, env=late)[1]
+        none = self.pack("undated", status=1, env={**late, "SOURCE_DATE_EPOCH": "today"})[1]
+        self.assertEqual(none, {})
+        said, least = self.pack("least", **few, env={**self.more, "PATH": self.plain_path})
+        self.assertEqual(set(least), {self.tarball, "SHA256SUMS"})
+        self.assertIn("no Debian package", said)
+        same = files_of(self, least[self.tarball], FIXED)
+        self.assertTrue(same == files_of(self, dated[self.tarball], LATE), "without dpkg-deb")
 
     def try_elsewhere(self, first: dict[str, bytes]) -> None:
         """Another place, umask, shell, language, time zone or user make no difference, and no
@@ -210,7 +223,8 @@ class PackagesTest(InstallTest):
         self.write("narrow/sh", f'#!/bin/sh\numask 077\nexec {shell} "$@"\n', 0o755)
         path = self.path("narrow") + ":" + self.more["PATH"]
         odd = {"PATH": path, "TMPDIR": place, "LC_ALL": "C.UTF-8", "TZ": "Asia/Tokyo"}
-        second = self.makes("other place/nobody", cwd=place, env={**self.more, **odd}, **rights())
+        more: dict[str, Any] = {"cwd": place, "env": {**self.more, **odd}, **rights()}
+        second = self.pack("other place/nobody", **more)[1]
         for name, data in first.items():
             self.assertTrue(data == second.get(name), name)
         self.assertEqual(os.listdir(place), ["nobody"])
