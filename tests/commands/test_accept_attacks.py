@@ -130,7 +130,7 @@ class AcceptAttacksTest(AcceptingTest):
     def test_names_taken(self) -> None:
         """At each name that is used lies a link of either sort to a file of root."""
         makers: tuple[Callable[[str, str], object], ...] = (os.link, os.symlink)
-        for name in ("aide.db", ".aide.db.part", "aide.db.previous"):
+        for name in ("aide.db", ".aide.db.new", ".aide.db.part", "aide.db.previous"):
             for make in makers:
                 put(self, "folder")
                 path = os.path.join(os.path.dirname(self.path(BASELINE)), name)

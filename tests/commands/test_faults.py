@@ -201,7 +201,7 @@ class FaultsTest(CommandTest):
         self.assertEqual(process.returncode, -number)
         self.assertEqual(self.leftovers(), [])
         self.assertEqual(self.read("state"), b"as before\n")
-        self.assertEqual([found for found in os.listdir(self.root) if ".part" in found], [])
+        self.assertEqual([name for name in os.listdir(self.root) if name[0] == "."], [])
 
     def test_secrecy(self) -> None:
         """Whatever the umask, the copies and the configuration have no name and can be opened by

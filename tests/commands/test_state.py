@@ -52,7 +52,7 @@ class StatusTest(StateTest):
         self.expect("metrics to a file", to_file, 0, b"", b"")
         self.assertEqual(self.read("aide.prom"), answer.output)
         self.assertEqual(os.stat(self.path("aide.prom")).st_mode & 0o777, 0o644)
-        self.assertFalse([name for name in os.listdir(self.root) if name.startswith("aide.prom.")])
+        self.assertFalse([name for name in os.listdir(self.root) if name[0] == "."])
 
     def test_metrics_faults(self) -> None:
         """Without a comparison there are no counts; and a failure leaves the metrics as before."""
