@@ -15,8 +15,8 @@ from tests.lib.programs import find_program, lines_program_of
 from tests.lib.scratch import TOP, Scratch, read
 
 PARTS = [
-    *("commands contrib docs examples/small_tree man packaging".split()),
-    *("README.md CHANGELOG.md SECURITY.md VERSION".split()),
+    *("commands/bin commands/lib commands/share contrib docs examples/small_tree man".split()),
+    *("packaging README.md CHANGELOG.md SECURITY.md VERSION".split()),
 ]
 NOBODY = 65534
 # What the scripts may need: the base system without a compiler, git, dpkg-deb or rt.
@@ -45,15 +45,17 @@ class Sources(Scratch):
         self.write(program + "-v3.proved", f"sha256={digest}\nkit=a kit\n")
         return self.write(program + "-v3", data, 0o755)
 
-    def copy(self, name: str) -> str:
-        """A copy of the parts of the repository that are installed or that install. The commands
-        have byte code, since each installation loads them for the completions."""
+    def copy(self, name: str, *without: str) -> str:
+        """A copy of the parts of the repository that are installed or that install; some of them
+        are empty. The commands have byte code: each installation loads them for the completions."""
         target = self.path(name)
         for part in PARTS:
             source, copied = os.path.join(TOP, part), os.path.join(target, part)
             os.makedirs(os.path.dirname(copied), exist_ok=True)
-            if part == "commands":
-                shutil.copytree(compiled_commands(), copied)
+            if part in without:
+                os.mkdir(copied)
+            elif part.startswith("commands/"):
+                shutil.copytree(compiled_commands() + part[len("commands") :], copied)
             elif os.path.isdir(source):
                 shutil.copytree(source, copied, ignore=shutil.ignore_patterns("__pycache__"))
             else:
@@ -62,11 +64,8 @@ class Sources(Scratch):
         return target
 
     def small_copy(self, name: str, *without: str) -> str:
-        """A copy without the files of some folders and without completions, to install it often."""
-        source = self.copy(name)
-        for folder in without:
-            shutil.rmtree(os.path.join(source, folder))
-            os.mkdir(os.path.join(source, folder))
+        """A copy without the files of some parts and without completions, to install it often."""
+        source = self.copy(name, *without)
         self.write(name + "/packaging/completions", "#!/bin/sh\n", 0o755)
         return source
 

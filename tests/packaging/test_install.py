@@ -254,7 +254,8 @@ class InstallingTest(InstallTest):
 
     def test_first_command(self) -> None:
         """A comparison in a clone proves and builds the program of lines, an option the other."""
-        source, surroundings = self.unbuilt("commands/lib/aide_compare/hosts")
+        source, surroundings = self.unbuilt()
+        shutil.rmtree(os.path.join(source, "commands/lib/aide_compare/hosts"))
         shutil.copy2(os.path.join(TOP, "compare"), source)
         self.write("calls", "")
         for words, status, wanted in (
