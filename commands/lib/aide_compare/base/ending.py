@@ -23,9 +23,6 @@ class Status(IntEnum):
     MEMORY = 22
     DATABASE = 24
 
-    def __str__(self) -> str:  # Before Python 3.11 it is the name, and not the number.
-        return str(self.value)
-
 
 class Fault(Exception):
     """Why a command cannot do its work: a status, a line, and more lines. Names of others are
@@ -209,6 +206,6 @@ def command(name: str, main: Main) -> int:
     try:
         return status_of(lambda: _run(main)) & 255
     except MemoryError:
-        return int(Status.MEMORY)
+        return Status.MEMORY
     except BaseException:
-        return int(Status.DEVICE)
+        return Status.DEVICE

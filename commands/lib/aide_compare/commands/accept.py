@@ -151,7 +151,7 @@ def compare_and_print(new: str, baseline: str) -> State:
     request = with_defaults(given_by(words), words)
     ended = Printer(request).job().carry_out()
     if ended.status > 7:
-        raise Fault(Status(ended.status), "nothing was compared, so nothing is accepted")
+        raise Fault(ended.status, "nothing was compared, so nothing is accepted")
     return ended.state()
 
 

@@ -112,7 +112,7 @@ class Comparison:
             self.hints = error.hints
         else:
             self.fault = fault_of(error)
-            self.status = int(self.fault.status)
+            self.status = self.fault.status
 
     def state(self) -> State:
         """The State that says it."""

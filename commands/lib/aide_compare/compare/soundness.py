@@ -1,7 +1,7 @@
 """Whether a database is sound, as the proved program says."""
 from __future__ import annotations
 
-from aide_compare.base.ending import Fault, Status
+from aide_compare.base.ending import Fault
 from aide_compare.base.escapes import shown, shown_lines
 from aide_compare.compare.comparison import Comparison, ComparisonInput
 from aide_compare.compare.unpack import Copy
@@ -34,4 +34,4 @@ def refuse_unsound(copy: Copy, former: Copy | None = None) -> None:
         if former is None:
             lines = [line.replace("old database", "new database") for line in lines]
         name = shown(comparison.copies[side].name)
-        raise Fault(Status(comparison.status), f"refused: {name} is no sound database", *lines)
+        raise Fault(comparison.status, f"refused: {name} is no sound database", *lines)

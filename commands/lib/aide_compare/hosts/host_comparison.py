@@ -143,7 +143,7 @@ def as_not_compared(directory: HostDirectory, state: State, why: str) -> State:
         text += f"; it differs: added {state.added}, removed {state.removed}"
         text += f", changed {state.changed}"
     no_counts = state._replace(added=None, removed=None, changed=None, standings=None)
-    return no_counts._replace(status=int(Status.DEVICE), error=text)
+    return no_counts._replace(status=Status.DEVICE, error=text)
 
 
 def keep_comparison(directory: HostDirectory, request: HostsRequest) -> State:

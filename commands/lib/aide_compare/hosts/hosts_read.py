@@ -36,7 +36,7 @@ def words_of(state: State) -> str:
 
 def host_of(name: str, status: int, error: str, state: State | None = None) -> Host:
     """A host with its status, its state if there is one, and why it was not compared."""
-    return Host(shown(name, 200), int(status), error.removeprefix(f"{name}: "), state)
+    return Host(shown(name, 200), status, error.removeprefix(f"{name}: "), state)
 
 
 def host_in(directory: HostDirectory, max_age: int) -> Host:

@@ -140,7 +140,7 @@ class HostDirectory:
     def not_compared(self, text: str, status: int = Status.DEVICE) -> None:
         """The state says at once that nothing was compared, so that no check shows an older
         result. One that cannot be written, as on a full disk, is removed."""
-        state = State(int(status), int(time.time()), error=text)
+        state = State(status, int(time.time()), error=text)
         try:
             replace(self.state_path, state.text(), what="the state")
         except (Fault, OSError) as fault:

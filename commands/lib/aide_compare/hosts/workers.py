@@ -76,7 +76,7 @@ class Worker:
         except (Fault, OSError, MemoryError) as error:
             fault = fault_of(error)
             text = without_name(self.host, fault.text)
-            result = HostResult(self.host, int(fault.status), text)
+            result = HostResult(self.host, fault.status, text)
         text = guarded(result.text)[:MAX_TEXT]
         answer = json.dumps([result.status, text, result.has_changes])
         write_all(descriptor, answer.encode())
@@ -95,7 +95,7 @@ class Worker:
         # The state says so. Another run may have the lock by now, and writes a state of its own.
         with suppress(Fault, OSError):
             HostDirectory(self.request.store, self.host, PAUSE).not_compared(f"{self.host}: {text}")
-        return HostResult(self.host, int(Status.DEVICE), text)
+        return HostResult(self.host, Status.DEVICE, text)
 
 
 def results(hosts: Sequence[str], request: HostsRequest) -> Iterator[HostResult]:
