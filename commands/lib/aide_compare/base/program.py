@@ -28,9 +28,8 @@ NEWER = "-v3"
 NEEDED = frozenset("abm avx avx2 bmi1 bmi2 f16c fma movbe xsave".split())
 CPUINFO = "/proc/cpuinfo"
 MAX_CPUINFO = 1 << 13
-MAX_DIFFERENT = 7  # The statuses up to this one say what differs; those above, why not.
-FAILURES = (Status.USAGE, Status.CONFIGURATION, Status.DEVICE, Status.MEMORY, Status.DATABASE)
-KNOWN = (*range(MAX_DIFFERENT + 1), *map(int, FAILURES))
+# Its statuses: what differs, or why nothing was compared.
+KNOWN = (*range(8), *Status)
 
 
 class Answer(NamedTuple):

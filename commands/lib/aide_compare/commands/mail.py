@@ -31,7 +31,7 @@ from aide_compare.commands.compare_request import CompareRequest, checked
 from aide_compare.commands.defaults import comparison_defaults
 from aide_compare.compare.comparison import Comparison
 from aide_compare.compare.state import State, read_state
-from aide_compare.compare.work import failed_comparison
+from aide_compare.compare.work import FAILURES, failed_comparison
 from aide_compare.lines.reader import Reader, Refused, reader_over
 from aide_compare.mail.message import build, clean, host_name, subject_of
 from aide_compare.mail.sending import deliver, send_all, transport_for
@@ -221,7 +221,7 @@ def compared(request: MailRequest) -> tuple[State, bytes, list[str]]:
         row = Row(mail.extend, partial(message_of, request, before), of_failure=True)
         ended = ComparisonJob(request, after=[row]).carry_out()
         return ended.state(), b"".join(mail), notes_of(request, ended)
-    except (Fault, MemoryError, OSError) as error:
+    except FAILURES as error:
         keep_failure(request.state, error)
         comparison = failed_comparison(error)
         return comparison.state(), b"".join(message_of(request, before, comparison, None)), []

@@ -23,8 +23,6 @@ from aide_compare.lines.reader import ODD, end_of
 
 MAX_CLOCKS_DIFFER = 600
 MIN_LINES = 1 << 12
-
-
 # What ends a comparison.
 FAILURES = (Fault, MemoryError, OSError)
 
