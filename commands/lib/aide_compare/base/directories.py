@@ -125,17 +125,9 @@ def _target_of(link: int, directory: Directory) -> str:
         return os.readlink("", dir_fd=link)
 
 
-class Walked:
-    """Where a path ends: in a directory, and at the descriptor (O_PATH) of a file there; None if
-    the path is that of the directory."""
-
-    def __init__(self, directory: Directory, file: int | None) -> None:
-        self.directory = directory
-        self.file = file
-
-
-def walked(path: str | bytes, make: bool = False) -> Walked:
-    """Where a path ends, with nobody else's links on the way."""
+def walked(path: str | bytes, make: bool = False) -> tuple[Directory, int | None]:
+    """Where a path ends, with nobody else's links on the way: in a directory, and at the descriptor
+    (O_PATH) of a file there; None if the path is that of the directory."""
     name = os.fsdecode(path)
     if "\0" in name or not name:
         raise failure(errno.ENOENT)
@@ -160,8 +152,8 @@ def walked(path: str | bytes, make: bool = False) -> Walked:
                 os.close(descriptor)
                 raise failure(errno.ENOTDIR)
             else:
-                return Walked(directory, descriptor)
-        return Walked(directory, None)
+                return directory, descriptor
+        return directory, None
     except BaseException:
         directory.close()
         raise
@@ -171,12 +163,12 @@ def open_directory(path: str | bytes, make: bool = False) -> Directory:
     """Opens a directory. With `make`, missing ones are made (0755), but only where no other user
     could replace them."""
     with OSErrorAsFault(f"cannot open the directory {shown(path)}"):
-        end = walked(path, make)
-        if end.file is not None:
-            os.close(end.file)
-            end.directory.close()
+        directory, file = walked(path, make)
+        if file is not None:
+            os.close(file)
+            directory.close()
             raise failure(errno.ENOTDIR)
-        return end.directory
+        return directory
 
 
 def names_in(directory: Directory, ending: str) -> list[str]:

@@ -88,14 +88,14 @@ def _opened(path: str | bytes, what: str) -> tuple[int, bool]:
     """A descriptor of a regular file, to be read, and whether nobody else can put another file in
     its place, wherever the links of the path lead."""
     with OSErrorAsFault(f"cannot open {what}{shown(path)}"):
-        end = walked(path)
-        with end.directory:
-            if end.file is None:
+        directory, file = walked(path)
+        with directory:
+            if file is None:
                 raise failure(errno.EISDIR, "it is a directory")
-            with closed_after(end.file):
-                refuse_other_kinds(os.fstat(end.file).st_mode)
-                descriptor = reopened(end.file, os.O_RDONLY | os.O_NONBLOCK | os.O_NOCTTY)
-                return descriptor, end.directory.is_safe()
+            with closed_after(file):
+                refuse_other_kinds(os.fstat(file).st_mode)
+                descriptor = reopened(file, os.O_RDONLY | os.O_NONBLOCK | os.O_NOCTTY)
+                return descriptor, directory.is_safe()
 
 
 def open_regular(path: str | bytes, what: str = "") -> int:
