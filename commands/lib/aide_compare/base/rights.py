@@ -4,7 +4,7 @@ from __future__ import annotations
 
 import os
 import pwd
-from collections.abc import Callable, Sequence
+from collections.abc import Callable
 from contextlib import suppress
 
 from aide_compare.base.directories import ANYBODY, open_directory
@@ -40,25 +40,19 @@ def _can_be_root(call: Callable[[int], None]) -> bool:
     return True
 
 
-def _become(entry: pwd.struct_passwd, groups: Sequence[int]) -> None:
-    """Gives the rights of this process up, and makes sure that they do not come back."""
+def become(entry: pwd.struct_passwd) -> None:
+    """This process becomes a user, with the groups and the home of the user, and makes sure that
+    its rights do not come back."""
     uid = entry.pw_uid
     gid = entry.pw_gid
-    os.setgroups(groups)
-    os.setresgid(gid, gid, gid)
-    os.setresuid(uid, uid, uid)
-    if uid == 0:
-        return
-    has_user = _can_be_root(os.seteuid)  # It can whenever setuid could.
-    has_group = gid != 0 and _can_be_root(os.setegid)
+    with OSErrorAsFault(f"cannot become {name_of(uid)}"):
+        os.setgroups(os.getgrouplist(entry.pw_name, gid))
+        os.setresgid(gid, gid, gid)
+        os.setresuid(uid, uid, uid)
+        has_user = uid != 0 and _can_be_root(os.seteuid)  # It can whenever setuid could.
+        has_group = 0 not in (uid, gid) and _can_be_root(os.setegid)
     if has_user or has_group:
         raise Fault(Status.DEVICE, "the privileges of root cannot be given up")
-
-
-def become(entry: pwd.struct_passwd) -> None:
-    """This process becomes a user for good, with the groups and the home of the user."""
-    with OSErrorAsFault(f"cannot become {name_of(entry.pw_uid)}"):
-        _become(entry, os.getgrouplist(entry.pw_name, entry.pw_gid))
     os.environ.update(HOME=entry.pw_dir or "/", USER=entry.pw_name, LOGNAME=entry.pw_name)
 
 
