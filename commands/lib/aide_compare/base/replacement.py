@@ -93,8 +93,7 @@ class Replacement:
         self.what = what
         self.name = os.path.basename(path)
         self.waiting: list[NewFile] = []  # What was made before the work.
-        if not self.name or os.path.isdir(path):
-            raise Fault(Status.USAGE, f"{what} is a directory: {shown(path)}")
+        self._refuse_directory()
         try:
             self.directory = open_directory(os.path.dirname(path) or ".", make=makes_directory)
         except (Fault, OSError) as error:
@@ -115,13 +114,16 @@ class Replacement:
             part.close()
         self.directory.close()
 
+    def _refuse_directory(self) -> None:
+        if not self.name or os.path.isdir(self.path):
+            raise Fault(Status.USAGE, f"{self.what} is a directory: {shown(self.path)}")
+
     def _fault(self, error: BaseException) -> Fault:
         return Fault(Status.DEVICE, f"cannot write {self.what} {shown(self.path)}: {why_of(error)}")
 
     def _do(self, work: Callable[[Directory], None]) -> None:
         """Does the work where nobody else can interfere."""
-        if os.path.isdir(self.path):
-            raise Fault(Status.USAGE, f"{self.what} is a directory: {shown(self.path)}")
+        self._refuse_directory()
         try:
             if not self.directory.is_safe():
                 raise Fault(Status.DEVICE, "other users can write in its directory or above it")
