@@ -19,7 +19,8 @@ from typing import IO, NamedTuple
 from aide_compare.base.directories import closed_after
 from aide_compare.base.ending import Fault, OSErrorAsFault, Status, write_all
 from aide_compare.base.escapes import shown
-from aide_compare.base.files import BLOCK, in_memory, nameless, open_regular, read_file, read_whole
+from aide_compare.base.files import BLOCK, in_memory, nameless, open_regular, private_file
+from aide_compare.base.files import read_file, read_whole
 from aide_compare.base.processes import PLAIN_ENVIRONMENT, Taker, bounded, run
 from aide_compare.base.program import Drain
 
@@ -215,7 +216,7 @@ def open_package(signed: Signed, directories: Sequence[str]) -> int | None:
 def tar_of(package: int, part: str) -> IO[bytes]:
     """The tar file of a package, unpacked by dpkg-deb: its files ("fsys"), or what dpkg keeps of it
     ("ctrl")."""
-    file = open(nameless(), "w+b")
+    file = private_file()
     drain = Drain(MAX_UNPACKED, file.write)
     status = run_tool(["dpkg-deb", f"--{part}-tarfile", FILE], {1: drain.take}, [package])
     if status != 0 or drain.is_cut:
