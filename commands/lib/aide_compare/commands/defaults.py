@@ -48,7 +48,7 @@ def comparison_defaults(
 ) -> Defaults:
     """What the administrator's defaults give the options of a comparison. `databases` are those
     that the words of the command line name, if they name some."""
-    defaults = defaults_for((DATABASES, *COMPARISON_DEFAULTS), words)
+    defaults = defaults_for(COMPARISON_DEFAULTS, words)
     named = defaults.get(DATABASES.attribute, ())
     # They may be those that the defaults name, by whatever names.
     if databases and not (named and all(map(is_same, databases, named))):
