@@ -24,10 +24,6 @@ _UNSEEN = (
 _OCTAL = [f"\\{byte:03o}" for byte in range(256)]
 
 
-def _escaped(data: bytes) -> str:
-    return "".join([_OCTAL[byte] for byte in data])
-
-
 def _with_escapes(text: str, kept: str = "") -> str:
     """A text in which each character is escaped that needs it, but for some."""
 
@@ -35,7 +31,7 @@ def _with_escapes(text: str, kept: str = "") -> str:
         letter = match.group()
         if letter in kept:
             return letter
-        return _escaped(_bytes_of(letter))
+        return "".join([_OCTAL[byte] for byte in _bytes_of(letter)])
 
     return re.sub(rf"[\\{_UNSEEN}]", escape, text)
 
