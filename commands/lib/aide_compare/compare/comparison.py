@@ -10,7 +10,7 @@ from aide_compare.base.ending import Fault, Status, fault_of
 from aide_compare.base.escapes import shown, shown_lines
 from aide_compare.base.options import MAX_DATABASE_BYTES, MAX_REPORT_BYTES
 from aide_compare.base.program import Answer
-from aide_compare.base.words import TRUSTED_SIDES
+from aide_compare.base.words import KINDS, SIDES
 from aide_compare.compare.configuration import NONE, ConfigurationTexts
 from aide_compare.compare.state import State
 from aide_compare.compare.unpack import Copy
@@ -116,24 +116,19 @@ class Comparison:
 
     def state(self) -> State:
         """The State that says it."""
-        digests = {side: copy.sha256 for side, copy in self.copies.items()}
-        written = {side: copy.written for side, copy in self.copies.items()}
-        state = State(
-            self.status,
-            self.time,
-            old=shown(self.request.old, MAX_NAME),
-            new=shown(self.request.new, MAX_NAME),
-            old_sha256=digests.get("old", ""),
-            new_sha256=digests.get("new", ""),
-            old_written=written.get("old"),
-            new_written=written.get("new"),
-            error=self._first_error()[:MAX_ERROR],
-            **self._further_values(),
-        )
-        if self.lines is None or self.has_failed:
-            return state
-        end = self.lines.end
-        return state._replace(added=end.added, removed=end.removed, changed=end.changed)
+        # The names of databases that were not opened are known too.
+        names = {"old": self.request.old, "new": self.request.new}
+        values: dict[str, Any] = {side: shown(name, MAX_NAME) for side, name in names.items()}
+        for side, copy in self.copies.items():
+            values[side] = shown(copy.name, MAX_NAME)
+            values[f"{side}_sha256"] = copy.sha256
+            if side in SIDES:
+                values[f"{side}_written"] = copy.written
+        for side, columns in self.skipped.items():
+            values[f"skipped_{side}"] = list(columns)
+        if self.lines and not self.has_failed:
+            values.update(zip(KINDS, self.lines.end.kinds), standings=self.standings)
+        return State(self.status, self.time, error=self._first_error()[:MAX_ERROR], **values)
 
     def _first_error(self) -> str:
         """What went wrong; nothing if nothing did."""
@@ -144,15 +139,3 @@ class Comparison:
                 if line and not line.endswith(" skipped"):
                     return line
         return ""
-
-    def _further_values(self) -> dict[str, Any]:
-        values: dict[str, Any] = {}
-        for side, names in self.skipped.items():
-            values[f"skipped_{side}"] = list(names)
-        for side in TRUSTED_SIDES:
-            if side in self.copies:
-                values[side] = shown(self.copies[side].name, MAX_NAME)
-                values[f"{side}_sha256"] = self.copies[side].sha256
-        if not self.has_failed:
-            values["standings"] = self.standings
-        return values
