@@ -3,7 +3,7 @@ from __future__ import annotations
 
 from aide_compare.base.ending import Fault
 from aide_compare.base.escapes import shown, shown_lines
-from aide_compare.compare.comparison import Comparison, ComparisonInput
+from aide_compare.compare.comparison import ComparisonInput
 from aide_compare.compare.unpack import Copy
 from aide_compare.compare.work import compare
 
@@ -11,20 +11,11 @@ MAX_LINES = 1 << 20
 MAX_ERROR_LINE = 1000
 
 
-def read_by_program(old: Copy, new: Copy) -> Comparison:
-    request = ComparisonInput(
-        old="",
-        new="",
-        copies={"old": old, "new": new},
-        max_report=MAX_LINES,
-    )
-    return compare(request)
-
-
 def refuse_unsound(copy: Copy, former: Copy | None = None) -> None:
     """A Fault if the program does not read an unpacked database to its end, or the former one
     beside it. One database is read as both."""
-    comparison = read_by_program(former or copy, copy)
+    copies = {"old": former or copy, "new": copy}
+    comparison = compare(ComparisonInput("", "", copies=copies, max_report=MAX_LINES))
     if comparison.fault:
         raise comparison.fault
     if comparison.has_failed:
