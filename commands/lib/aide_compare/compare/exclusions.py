@@ -30,6 +30,7 @@ COLUMNS = b"@@db_spec "
 # The columns of digests by which a file is looked up in a database.
 DIGESTS = (b"sha512", b"sha256", b"sha3_512", b"sha3_256")
 HAS_CHANGED = "which decides what is left out, has changed since the baseline was made"
+NO_TEXT = "[\0\udc80-\udcff]"  # A zero byte, or one that is not UTF-8.
 FAULT = re.compile(rb"aide: list:([0-9]+): ([^\n]*)\n")
 
 
@@ -125,10 +126,6 @@ def refuse_other_texts(exclusions: Exclusions) -> None:
         why = f"the lines of what is left out have more than {MAX_EXCLUSIONS_BYTES} bytes"
         raise Fault(Status.CONFIGURATION, why)
     for line in exclusions.lines:
-        try:
-            is_text = "\0" not in line.text.decode()
-        except UnicodeDecodeError:
-            is_text = False
-        if not is_text:
+        if re.search(NO_TEXT, line.text.decode("utf-8", "surrogateescape")):
             why = "it is not in UTF-8; write ? for any byte"
             raise Fault(Status.CONFIGURATION, f"{line.place}: {why}: {shown(line.text, MAX_SHOWN)}")
