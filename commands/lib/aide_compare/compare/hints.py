@@ -9,6 +9,7 @@ from collections.abc import Iterable, Iterator, Mapping, Sequence
 from aide_compare.base.database import MAX_LINE, Kind, Layout
 from aide_compare.base.escapes import shown
 from aide_compare.base.files import reopened
+from aide_compare.base.words import SIDES
 from aide_compare.compare.configuration import ConfigurationTexts
 from aide_compare.compare.unpack import Copy
 
@@ -128,7 +129,7 @@ def order_notes(copies: Mapping[str, Copy]) -> Iterator[str]:
     """A line if AIDE wrote the new database before the old one, as it has dated both in one zone.
     The times of the files say nothing: accepting a database, or copying it, gives it another
     one."""
-    old, new = (re.search(DATED, os.pread(copies[side].fd, 1000, 0)) for side in ("old", "new"))
+    old, new = (re.search(DATED, os.pread(copies[side].fd, 1000, 0)) for side in SIDES)
     if old and new and old.group(2) == new.group(2) and new.group(1) < old.group(1):
         times = f"{new.group(1).decode()}, and {old.group(1).decode()}"
         yield f"the new database is older than the old one ({times}): were they swapped?"
