@@ -35,12 +35,19 @@ class Fault(Exception):
         self.more = more
 
 
-class ReaderGone(Fault):
+class DeviceFault(Fault):
+    """A Fault of the status 18: a file, a program or another host failed, or this command."""
+
+    def __init__(self, text: str, *more: str) -> None:
+        super().__init__(Status.DEVICE, text, *more)
+
+
+class ReaderGone(DeviceFault):
     """Nobody reads standard output any more, as after head(1) has what it wants. Nothing is said
     then."""
 
     def __init__(self) -> None:
-        super().__init__(Status.DEVICE, "nobody reads standard output any more")
+        super().__init__("nobody reads standard output any more")
 
 
 class Done(Exception):
@@ -136,7 +143,7 @@ class OSErrorAsFault:
 
     def __exit__(self, _kind: object, error: BaseException | None, _traceback: object) -> None:
         if isinstance(error, OSError):
-            raise Fault(Status.DEVICE, f"{self.what}: {reason(error)}") from None
+            raise DeviceFault(f"{self.what}: {reason(error)}") from None
 
 
 def fault_of(error: BaseException) -> Fault:
@@ -147,9 +154,9 @@ def fault_of(error: BaseException) -> Fault:
     if isinstance(error, MemoryError):
         return Fault(Status.MEMORY, "out of memory")
     if isinstance(error, OSError):
-        return Fault(Status.DEVICE, reason(error))
+        return DeviceFault(reason(error))
     text = guarded(str(error))[:300]
-    return Fault(Status.DEVICE, f"a fault of this command: {type(error).__name__}: {text}")
+    return DeviceFault(f"a fault of this command: {type(error).__name__}: {text}")
 
 
 def why_of(error: BaseException) -> str:

@@ -12,7 +12,7 @@ from io import BufferedRandom
 from typing import IO
 
 from aide_compare.base.directories import PLACE, closed_after, failure, others_can_write, walked
-from aide_compare.base.ending import Fault, OSErrorAsFault, Status, write_all
+from aide_compare.base.ending import DeviceFault, Fault, OSErrorAsFault, Status, write_all
 from aide_compare.base.escapes import shown
 
 BLOCK = 1 << 18
@@ -80,8 +80,7 @@ def reopened(descriptor: int, flags: int) -> int:
     try:
         return os.open(f"/proc/self/fd/{descriptor}", flags | os.O_CLOEXEC)
     except FileNotFoundError:
-        text = "/proc is not mounted, so no file can be opened by its descriptor"
-        raise Fault(Status.DEVICE, text)
+        raise DeviceFault("/proc is not mounted, so no file can be opened by its descriptor")
 
 
 def _opened(path: str | bytes, what: str) -> tuple[int, bool]:
@@ -111,7 +110,7 @@ def read_whole(descriptor: int, limit: int, what: str) -> bytes:
         while block := os.read(descriptor, min(limit + 1 - len(data), BLOCK)):
             data += block
             if len(data) > limit:
-                raise Fault(Status.DEVICE, f"{what} has more than {limit} bytes")
+                raise DeviceFault(f"{what} has more than {limit} bytes")
     return bytes(data)
 
 
@@ -128,7 +127,7 @@ def open_trusted(path: str, what: str) -> int:
     descriptor, is_safe = _opened(path, f"{what} ")
     if not is_safe or others_can_write(os.fstat(descriptor)):
         os.close(descriptor)
-        raise Fault(Status.DEVICE, f"other users can write {what} {shown(path)}")
+        raise DeviceFault(f"other users can write {what} {shown(path)}")
     return descriptor
 
 

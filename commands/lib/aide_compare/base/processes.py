@@ -16,7 +16,7 @@ from functools import partial
 from types import MappingProxyType
 from typing import NoReturn
 
-from aide_compare.base.ending import Fault, Status
+from aide_compare.base.ending import DeviceFault
 from aide_compare.base.escapes import shown
 from aide_compare.base.files import BLOCK
 
@@ -32,11 +32,11 @@ NO_DESCRIPTORS: Mapping[int, int] = MappingProxyType({})
 PLAIN_ENVIRONMENT = MappingProxyType({"PATH": "/usr/bin:/bin", "LC_ALL": "C", "HOME": "/"})
 
 
-class OverTime(Fault):
+class OverTime(DeviceFault):
     """A program was not over by its deadline."""
 
     def __init__(self, program: str | bytes) -> None:
-        super().__init__(Status.DEVICE, f"{shown(program)} took too long, and was killed")
+        super().__init__(f"{shown(program)} took too long, and was killed")
 
 
 def bounded(text: bytearray, limit: int, what: str) -> Taker:
@@ -45,7 +45,7 @@ def bounded(text: bytearray, limit: int, what: str) -> Taker:
     def take(block: bytes) -> None:
         text.extend(block)
         if len(text) > limit:
-            raise Fault(Status.DEVICE, f"{what} more than {limit} bytes")
+            raise DeviceFault(f"{what} more than {limit} bytes")
 
     return take
 
@@ -82,7 +82,7 @@ def limit_time(seconds: int, what: str = "it") -> None:
     started; 0 is no limit."""
 
     def end(_number: int, _frame: object) -> None:
-        raise Fault(Status.DEVICE, f"{what} took more than {seconds} seconds")
+        raise DeviceFault(f"{what} took more than {seconds} seconds")
 
     signal.signal(signal.SIGALRM, end)
     signal.alarm(seconds)

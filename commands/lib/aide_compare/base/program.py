@@ -7,7 +7,7 @@ from collections.abc import Mapping, Sequence
 from contextlib import suppress
 from typing import NamedTuple
 
-from aide_compare.base.ending import Fault, Status, reason
+from aide_compare.base.ending import DeviceFault, Status, reason
 from aide_compare.base.escapes import shown
 from aide_compare.base.processes import NOT_STARTED, Taker, run
 
@@ -110,7 +110,7 @@ def installed_path(name: str) -> str:
         above = "../../.."
     path = os.path.join(os.path.realpath(os.path.join(library, above)), name)
     if not (os.path.isfile(path) and os.access(path, os.X_OK)):
-        raise Fault(Status.DEVICE, f"cannot find {shown(path)}, which came with this command")
+        raise DeviceFault(f"cannot find {shown(path)}, which came with this command")
     return path
 
 
@@ -128,11 +128,11 @@ def run_program(
     try:
         status = run([program, *words], takers, descriptors, environment)
     except OSError as error:
-        raise Fault(Status.DEVICE, f"cannot run {shown(program)}: {reason(error)}")
+        raise DeviceFault(f"cannot run {shown(program)}: {reason(error)}")
     if status < 0:
-        raise Fault(Status.DEVICE, f"{shown(program)} was ended by signal {-status}")
+        raise DeviceFault(f"{shown(program)} was ended by signal {-status}")
     if status == NOT_STARTED:
-        raise Fault(Status.DEVICE, f"cannot run {shown(program)}")
+        raise DeviceFault(f"cannot run {shown(program)}")
     if status not in KNOWN:
-        raise Fault(Status.DEVICE, f"{shown(program)} could not be run: status {status}")
+        raise DeviceFault(f"{shown(program)} could not be run: status {status}")
     return Answer(status, bytes(errors))

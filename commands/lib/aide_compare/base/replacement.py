@@ -11,7 +11,7 @@ from functools import cache
 
 from aide_compare.base.directories import LISTING, Directory, closed_after, failure
 from aide_compare.base.directories import open_directory
-from aide_compare.base.ending import Fault, Status, why_of, write_all
+from aide_compare.base.ending import DeviceFault, Fault, Status, why_of, write_all
 from aide_compare.base.escapes import shown
 from aide_compare.base.files import (
     PRIVATE,
@@ -119,14 +119,14 @@ class Replacement:
             raise Fault(Status.USAGE, f"{self.what} is a directory: {shown(self.path)}")
 
     def _fault(self, error: BaseException) -> Fault:
-        return Fault(Status.DEVICE, f"cannot write {self.what} {shown(self.path)}: {why_of(error)}")
+        return DeviceFault(f"cannot write {self.what} {shown(self.path)}: {why_of(error)}")
 
     def _do(self, work: Callable[[Directory], None]) -> None:
         """Does the work where nobody else can interfere."""
         self._refuse_directory()
         try:
             if not self.directory.is_safe():
-                raise Fault(Status.DEVICE, "other users can write in its directory or above it")
+                raise DeviceFault("other users can write in its directory or above it")
             work(self.directory)
         except (Fault, OSError) as error:
             raise self._fault(error)

@@ -8,7 +8,7 @@ from collections.abc import Callable
 from contextlib import suppress
 
 from aide_compare.base.directories import ANYBODY, open_directory
-from aide_compare.base.ending import Fault, OSErrorAsFault, Status
+from aide_compare.base.ending import DeviceFault, Fault, OSErrorAsFault, Status
 from aide_compare.base.escapes import shown
 from aide_compare.base.files import given_descriptor
 
@@ -52,7 +52,7 @@ def become(entry: pwd.struct_passwd) -> None:
         has_user = uid != 0 and _can_be_root(os.seteuid)  # It can whenever setuid could.
         has_group = 0 not in (uid, gid) and _can_be_root(os.setegid)
     if has_user or has_group:
-        raise Fault(Status.DEVICE, "the privileges of root cannot be given up")
+        raise DeviceFault("the privileges of root cannot be given up")
     os.environ.update(HOME=entry.pw_dir or "/", USER=entry.pw_name, LOGNAME=entry.pw_name)
 
 

@@ -6,7 +6,7 @@ from collections.abc import Iterable, Iterator
 from contextlib import contextmanager
 from typing import Any
 
-from aide_compare.base.ending import Fault, Status
+from aide_compare.base.ending import DeviceFault
 from aide_compare.base.files import private_place
 
 PAGE = 4096
@@ -41,7 +41,7 @@ class Rows:
         try:
             yield
         except self.error as error:
-            raise Fault(Status.DEVICE, f"cannot keep rows in {private_place()}: {error}") from None
+            raise DeviceFault(f"cannot keep rows in {private_place()}: {error}") from None
 
     def do(self, statement: str, *values: object) -> None:
         with self._error_as_fault():

@@ -15,7 +15,7 @@ from itertools import groupby
 from typing import IO
 
 from aide_compare.base.database import ABSENT, SET_ID
-from aide_compare.base.ending import Fault, Status
+from aide_compare.base.ending import DeviceFault
 from aide_compare.base.escapes import shown
 from aide_compare.base.files import BLOCK, digests_of, nameless
 from aide_compare.base.paths import escaped, key_of_path, path_of
@@ -68,7 +68,7 @@ def members_of(file: IO[bytes]) -> Iterator[tuple[bytes, FieldsByColumn]]:
                 fields.update(lname=escaped(target), size=b"%d" % len(target))
             yield path, fields
     except tarfile.TarError:
-        raise Fault(Status.DEVICE, "dpkg does not know a member of a signed package") from None
+        raise DeviceFault("dpkg does not know a member of a signed package") from None
 
 
 def link_count(entry: FieldsByColumn) -> int:

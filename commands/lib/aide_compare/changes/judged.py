@@ -13,7 +13,7 @@ from collections.abc import Iterator
 from functools import cached_property
 from itertools import islice
 
-from aide_compare.base.ending import Fault, Status
+from aide_compare.base.ending import DeviceFault
 from aide_compare.base.escapes import shown
 from aide_compare.base.paths import key_of_path
 from aide_compare.base.words import SEVERITIES, status_of_counts
@@ -89,7 +89,7 @@ class Judged:
         status = status_of_counts(("added" in kinds, "removed" in kinds, "changed" in kinds))
         counts = Counts(**numbers, told_status=status)
         if not counts.fits(self.changes):
-            raise Fault(Status.DEVICE, "the counts of the standings are not those of the changes")
+            raise DeviceFault("the counts of the standings are not those of the changes")
         return counts
 
     def group_by(self, records: Dpkg | Rpm, has_pair: bool) -> None:

@@ -8,7 +8,7 @@ from functools import lru_cache
 from typing import NamedTuple
 
 from aide_compare.base.database import RUN_BITS, SET_ID
-from aide_compare.base.ending import Fault, Status
+from aide_compare.base.ending import DeviceFault, Fault, Status
 from aide_compare.base.escapes import shown
 from aide_compare.base.files import lines_of
 from aide_compare.base.paths import Pattern, Test, pattern_of
@@ -232,7 +232,7 @@ class Severity:
         places = (os.path.normpath(os.path.join(HERE, part)) for part in SHIPPED)
         path = path or next((place for place in places if os.path.isfile(place)), None)
         if path is None:
-            raise Fault(Status.DEVICE, "severity.conf is missing: install this command again")
+            raise DeviceFault("severity.conf is missing: install this command again")
         lines = lines_of(path, "the table of severities")
         rows = [self._rows(number, *line) for number, line in enumerate(lines)]
         self.top = Inside([(row, tuple(row.pattern.reached(0))) for each in rows for row in each])

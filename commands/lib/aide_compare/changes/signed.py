@@ -17,7 +17,7 @@ from hashlib import sha256
 from typing import IO, NamedTuple
 
 from aide_compare.base.directories import closed_after
-from aide_compare.base.ending import Fault, OSErrorAsFault, Status, write_all
+from aide_compare.base.ending import DeviceFault, OSErrorAsFault, write_all
 from aide_compare.base.escapes import shown
 from aide_compare.base.files import BLOCK, in_memory, nameless, open_regular, private_file
 from aide_compare.base.files import read_file, read_whole
@@ -74,13 +74,13 @@ def signed_text(release: Release, keys: int) -> str:
         }
         run_tool(GPGV, takers, [file, keys])
     if not GOOD.search(lines) or BAD.search(lines):
-        raise Fault(Status.DEVICE, f"gpgv finds no key of the keyrings that signed {name}")
+        raise DeviceFault(f"gpgv finds no key of the keyrings that signed {name}")
     signed = text.decode("utf-8", "surrogateescape")
     if release.suite not in SUITES.findall(signed):
-        raise Fault(Status.DEVICE, f"{name} is signed for another suite than {release.suite}")
+        raise DeviceFault(f"{name} is signed for another suite than {release.suite}")
     expires = EXPIRES.search(signed)
     if expires and parsedate_to_datetime(expires[1]).timestamp() < time.time():
-        raise Fault(Status.DEVICE, f"{name} was valid until {shown(expires[1])}")
+        raise DeviceFault(f"{name} was valid until {shown(expires[1])}")
     return signed
 
 
@@ -95,7 +95,7 @@ def copy_signed(path: str, size: int, digest: str) -> int:
             content.update(block)
             write_all(copy, block)
     if size != 0 or content.hexdigest() != digest:
-        raise Fault(Status.DEVICE, f"{shown(path)} is not as it was signed")
+        raise DeviceFault(f"{shown(path)} is not as it was signed")
     os.lseek(copy, 0, os.SEEK_SET)
     return copy
 
@@ -144,7 +144,7 @@ def is_less(version: str, other: str) -> bool:
     """Whether a version of a package is older than another one, as dpkg says."""
     status = run_tool(["dpkg", "--compare-versions", "--", version, "lt", other], {}, ())
     if not 0 <= status <= 1:
-        raise Fault(Status.DEVICE, f"dpkg cannot compare two versions: {status}")
+        raise DeviceFault(f"dpkg cannot compare two versions: {status}")
     return not status
 
 
@@ -177,9 +177,7 @@ class Catalog:
             for signed in packages_of(release, keys):
                 if signed.get("Architecture") in self.architectures:
                     if len(signed) < 7:  # Six fields, and the path of the signed file.
-                        raise Fault(
-                            Status.DEVICE, f"{shown(release.path)}: a package lacks a field"
-                        )
+                        raise DeviceFault(f"{shown(release.path)}: a package lacks a field")
                     self._take(signed)
 
     def _take(self, signed: Signed) -> None:
@@ -220,6 +218,6 @@ def tar_of(package: int, part: str) -> IO[bytes]:
     drain = Drain(MAX_UNPACKED, file.write)
     status = run_tool(["dpkg-deb", f"--{part}-tarfile", FILE], {1: drain.take}, [package])
     if status != 0 or drain.is_cut:
-        raise Fault(Status.DEVICE, f"dpkg-deb cannot unpack a signed package: {status}")
+        raise DeviceFault(f"dpkg-deb cannot unpack a signed package: {status}")
     file.seek(0)
     return file

@@ -9,7 +9,7 @@ from itertools import chain, islice
 from operator import itemgetter
 from typing import Any, NamedTuple
 
-from aide_compare.base.ending import Fault, Status
+from aide_compare.base.ending import DeviceFault
 from aide_compare.base.paths import path_of
 from aide_compare.base.rows import Rows
 from aide_compare.base.words import SEVERITIES
@@ -88,8 +88,7 @@ class Table(Rows):
             sizes.update(map(itemgetter(2, 3, 4), block))
         self.do_all("insert into sizes values (?, ?, ?, ?)", ((*key, sizes[key]) for key in sizes))
         if len(self) > MAX_ROWS:
-            text = f"there are more than {MAX_ROWS} changes that are not silent"
-            raise Fault(Status.DEVICE, text)
+            raise DeviceFault(f"there are more than {MAX_ROWS} changes that are not silent")
 
     def places(self, order: str = ORDER) -> Iterator[int]:
         """Yields the places of all changes in an order, the one in which people read them if no

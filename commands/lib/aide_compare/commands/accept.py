@@ -8,7 +8,7 @@ from collections.abc import Iterator, Sequence
 from contextlib import suppress
 from typing import NamedTuple
 
-from aide_compare.base.ending import Fault, Status, say, tell, usage_fault
+from aide_compare.base.ending import DeviceFault, Fault, Status, say, tell, usage_fault
 from aide_compare.base.escapes import shown
 from aide_compare.base.files import blocks_of, nameless
 from aide_compare.base.options import KEEP_OPEN, MAX_SIZE, QUIET, SHA256, Asked, Operand, field
@@ -81,7 +81,7 @@ def merge(request: AcceptRequest, new: Copy, baseline: Baseline) -> Merged:
         text = (
             f"there is no baseline {shown(baseline.path)} that can be read, so nothing stays open"
         )
-        raise Fault(Status.DEVICE, text)
+        raise DeviceFault(text)
     old = copy_opened(Opened("old", baseline.path, descriptor), request.max_size)
     refuse_unsound(new, old)
     patterns = Patterns(request.keep_open)

@@ -6,7 +6,7 @@ import os
 from collections.abc import Container, Iterable, Sequence
 
 from aide_compare.base.database import ABSENT, refuse_terminal
-from aide_compare.base.ending import Fault, Status, say, usage_fault, write_blocks
+from aide_compare.base.ending import DeviceFault, Fault, Status, say, usage_fault, write_blocks
 from aide_compare.base.escapes import shown
 from aide_compare.base.files import blocks_of, in_memory, trusted_text
 from aide_compare.base.options import MAX_SIZE, QUIET, USER, Asked, Operand, field, option
@@ -117,11 +117,11 @@ def keys_of(path: str, file: str, nights: Sequence[Night]) -> bytes:
     text = trusted_text(file, "the keyring")
     if text.startswith(ARMOR):
         why = f"the keyring {shown(path)} is a text, which gpgv does not read"
-        raise Fault(Status.DEVICE, why, "gpg --dearmor makes a keyring of it")
+        raise DeviceFault(why, "gpg --dearmor makes a keyring of it")
     content = content_of(io.BytesIO(text))
     found = [(night.named.get(path), night.named.get(file)) for night in nights]
     if any(map(any, found)) and not all(entry and fits(entry, content) for _, entry in found):
-        raise Fault(Status.DEVICE, f"the keyring {shown(path)} is not as both databases have it")
+        raise DeviceFault(f"the keyring {shown(path)} is not as both databases have it")
     return text
 
 
@@ -178,7 +178,7 @@ def upgrades_of(old_copy: Copy, new_copy: Copy, request: ArchiveRequest) -> Upgr
     keys = in_memory(b"".join(keys_of(*each, (old, new)) for each in keyrings.items()))
     releases = releases_of(request.directories, old.indexes)
     if not releases:
-        raise Fault(Status.DEVICE, "--from names no signed index", ADVICE)
+        raise DeviceFault("--from names no signed index", ADVICE)
     # dpkg keeps the list of a package of which it has left the configuration.
     came = new.whole - old.lists.keys() - old.sums.keys()
     halves = (new.lists.keys() - old.lists.keys()) | (new.sums.keys() - old.sums.keys())

@@ -3,7 +3,7 @@ from __future__ import annotations
 
 from collections.abc import Sequence
 
-from aide_compare.base.ending import Fault, Status, usage_fault
+from aide_compare.base.ending import DeviceFault, usage_fault
 from aide_compare.base.files import is_missing
 from aide_compare.base.options import (
     KEEP_OPEN,
@@ -59,8 +59,7 @@ def main(arguments: Sequence[str]) -> int:
         raise usage_fault("give --sha256")
     host = check_name(request.host)
     if is_missing(f"{request.store}/hosts/{host}/{NEW_FILE}"):
-        text = f"{host}: nothing was fetched yet; see aide-compare hosts add --help"
-        raise Fault(Status.DEVICE, text)
+        raise DeviceFault(f"{host}: nothing was fetched yet; see aide-compare hosts add --help")
     limit_memory(MAX_MEMORY)
     directory = HostDirectory(request.store, host, request.seconds)
     next_baseline = AcceptRequest(

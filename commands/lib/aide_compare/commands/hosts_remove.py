@@ -5,7 +5,7 @@ import os
 from collections.abc import Sequence
 from contextlib import closing, suppress
 
-from aide_compare.base.ending import Fault, OSErrorAsFault, Status, tell
+from aide_compare.base.ending import DeviceFault, OSErrorAsFault, Status, tell
 from aide_compare.base.escapes import shown
 from aide_compare.base.files import is_missing
 from aide_compare.base.options import HOSTS_OPTION, HostsAsked, Operand, field
@@ -52,8 +52,7 @@ def main(arguments: Sequence[str]) -> int:
     was_listed = remove_host(host, request.hosts_file)
     was_kept = remove_directory(host, request.store, request.seconds)
     if not was_listed and not was_kept:
-        raise Fault(
-            Status.DEVICE,
+        raise DeviceFault(
             f"{host} is not in {shown(request.hosts_file)}, and nothing is kept of it",
         )
     if not request.is_quiet:

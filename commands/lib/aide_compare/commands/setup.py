@@ -11,7 +11,7 @@ from contextlib import suppress
 from functools import partial
 from typing import NamedTuple
 
-from aide_compare.base.ending import Fault, Status, tell
+from aide_compare.base.ending import DeviceFault, Fault, Status, tell
 from aide_compare.base.escapes import shown
 from aide_compare.base.files import is_missing, reopened
 from aide_compare.base.replacement import replace
@@ -117,7 +117,7 @@ class Machine:
             run_shown(["aide", "--init"], SECONDS_OF_INIT)
             rename_safely(self.new, self.baseline)
         if not os.path.lexists(self.baseline):
-            raise Fault(Status.DEVICE, f"AIDE has not written {shown(self.baseline)}")
+            raise DeviceFault(f"AIDE has not written {shown(self.baseline)}")
 
     def give(self, path: str) -> None:
         """Gives a database that root has made to the user. Others can write in the directory, so
@@ -130,17 +130,17 @@ class Machine:
                 status = os.fstat(file)
                 is_single = stat.S_ISREG(status.st_mode) and status.st_nlink == 1
                 if not is_single or status.st_uid not in (0, self.user.pw_uid):
-                    raise Fault(Status.DEVICE, f"{shown(path)} is no file of root's with one name")
+                    raise DeviceFault(f"{shown(path)} is no file of root's with one name")
                 opened = reopened(file, os.O_RDONLY)
         with closed_after(opened):
             if not os.pread(opened, 10, 0).startswith(DATABASE_STARTS):
-                raise Fault(Status.DEVICE, f"{shown(path)} is not a database of AIDE")
+                raise DeviceFault(f"{shown(path)} is not a database of AIDE")
             os.fchown(opened, self.user.pw_uid, self.user.pw_gid)
 
     def make_directory(self) -> None:
         with open_directory(PATHS.own_directory, make=True) as directory:
             if not directory.is_safe():
-                raise Fault(Status.DEVICE, f"other users can write in {PATHS.own_directory}")
+                raise DeviceFault(f"other users can write in {PATHS.own_directory}")
             with suppress(FileExistsError):
                 os.mkdir(DAILY, 0o755, dir_fd=directory.fd)
             flags = os.O_RDONLY | os.O_DIRECTORY | os.O_NOFOLLOW | os.O_CLOEXEC
@@ -197,7 +197,7 @@ class Machine:
             run_shown(words)
         except Fault:
             advice = "install a mail system, or go on with --no-mail"
-            raise Fault(Status.DEVICE, f"the test mail was not sent; {advice}")
+            raise DeviceFault(f"the test mail was not sent; {advice}")
 
     def job(self) -> Step:
         if self.has_timer:
@@ -237,7 +237,7 @@ def take_steps(machine: Machine) -> None:
     """Makes what is missing, unless a job is in its way."""
     others = list(machine.other_jobs())
     if others:
-        raise Fault(Status.DEVICE, *others)
+        raise DeviceFault(*others)
     count = 0
     for number, step in enumerate(machine.steps(), 1):
         if step.is_done:

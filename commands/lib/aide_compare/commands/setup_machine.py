@@ -8,7 +8,7 @@ from collections.abc import Sequence
 from contextlib import suppress
 
 from aide_compare.base.directories import open_directory
-from aide_compare.base.ending import Fault, OSErrorAsFault, Status, tell
+from aide_compare.base.ending import DeviceFault, Fault, OSErrorAsFault, tell
 from aide_compare.base.escapes import shown
 from aide_compare.base.files import read_file
 from aide_compare.base.processes import run_here
@@ -55,7 +55,7 @@ def example(name: str) -> bytes:
         path = os.path.join(directory, name)
         if os.path.isfile(path):
             return read_file(os.path.realpath(path), MAX_EXAMPLE)
-    raise Fault(Status.DEVICE, f"the example {name} did not come with this command")
+    raise DeviceFault(f"the example {name} did not come with this command")
 
 
 def aides_configuration() -> str:
@@ -64,7 +64,7 @@ def aides_configuration() -> str:
         if os.path.lexists(path):
             return path
     text = "AIDE is not installed here, or not configured; on Debian: apt install aide-common"
-    raise Fault(Status.DEVICE, text)
+    raise DeviceFault(text)
 
 
 def run_shown(words: Sequence[str], seconds: int = SECONDS) -> None:
@@ -74,7 +74,7 @@ def run_shown(words: Sequence[str], seconds: int = SECONDS) -> None:
     with OSErrorAsFault(f"cannot run {words[0]}"):
         status = run_here(words, seconds, ENVIRONMENT)
     if status:
-        raise Fault(Status.DEVICE, f"{words[0]} ended with status {status}")
+        raise DeviceFault(f"{words[0]} ended with status {status}")
 
 
 def make_without() -> None:
@@ -97,7 +97,7 @@ def rename_safely(old: str, new: str) -> None:
     with open_directory(source) as here, open_directory(target) as there:
         for path, directory in ((source, here), (target, there)):
             if not directory.is_safe():
-                raise Fault(Status.DEVICE, f"other users can write in {shown(path)}")
+                raise DeviceFault(f"other users can write in {shown(path)}")
         with OSErrorAsFault(f"cannot rename {shown(old)}"):
             os.rename(old_name, new_name, src_dir_fd=here.fd, dst_dir_fd=there.fd)
 

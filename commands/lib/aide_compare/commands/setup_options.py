@@ -6,7 +6,7 @@ import re
 from collections.abc import Sequence
 from contextlib import suppress
 
-from aide_compare.base.ending import Fault, Status
+from aide_compare.base.ending import DeviceFault, Fault
 from aide_compare.base.escapes import shown
 from aide_compare.base.files import read_file
 from aide_compare.base.options import TO
@@ -67,7 +67,7 @@ def write_options(address: str | None, needed: Sequence[str]) -> None:
     if os.path.lexists(PATHS.defaults):
         if not is_told(address):
             why = f"{PATHS.defaults} stays as it is; write there: {TO.name} {shown(address or '')}"
-            raise Fault(Status.DEVICE, why)
+            raise DeviceFault(why)
         text = text_there(PATHS.defaults)
     else:
         text = FIRST_LINES

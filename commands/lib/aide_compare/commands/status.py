@@ -5,7 +5,15 @@ from __future__ import annotations
 import os
 from collections.abc import Sequence
 
-from aide_compare.base.ending import Done, Fault, Status, tell, usage_fault, why_of, write_blocks
+from aide_compare.base.ending import (
+    DeviceFault,
+    Done,
+    Status,
+    tell,
+    usage_fault,
+    why_of,
+    write_blocks,
+)
 from aide_compare.base.escapes import guarded, shown
 from aide_compare.base.files import is_name
 from aide_compare.base.replacement import replace
@@ -149,7 +157,7 @@ def write_text(request: StatusRequest) -> int:
     if not os.path.lexists(request.state):
         text = f"no comparison is known: there is no {shown(request.state)}"
         hint = "aide-compare setup makes this machine ready for one each day"
-        raise Fault(Status.DEVICE, text, hint)
+        raise DeviceFault(text, hint)
     state = read_state(request.state)
     is_young = state.age is not None and not state.is_older(request.max_age)
     if request.is_quiet and state.told_status == 0 and is_young:

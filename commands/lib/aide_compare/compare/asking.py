@@ -7,7 +7,7 @@ from contextlib import suppress
 from typing import Any
 
 from aide_compare.base.directories import closed_after
-from aide_compare.base.ending import Fault, Status
+from aide_compare.base.ending import DeviceFault, Fault
 from aide_compare.base.escapes import shown
 from aide_compare.base.files import in_memory
 from aide_compare.base.processes import Taker
@@ -33,7 +33,7 @@ def odd_answer(program: str, answer: Answer) -> Fault:
     why = f"ended with status {answer.status}, but its answer does not say so"
     if first_error:
         why = f"does not run here: {first_error}"
-    return Fault(Status.DEVICE, f"{shown(program)} {why}")
+    return DeviceFault(f"{shown(program)} {why}")
 
 
 def _ask(

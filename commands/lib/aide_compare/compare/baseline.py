@@ -11,7 +11,7 @@ from typing import NamedTuple
 
 from aide_compare.base.directories import ANYBODY, LISTING, PIECE, Directory, closed_after, failure
 from aide_compare.base.directories import open_directory
-from aide_compare.base.ending import Fault, OSErrorAsFault, Status, why_of
+from aide_compare.base.ending import DeviceFault, Fault, OSErrorAsFault, Status, why_of
 from aide_compare.base.escapes import shown
 from aide_compare.base.files import copy_file, is_locked, new_file, refuse_other_kinds, reopened
 from aide_compare.base.files import unlink
@@ -121,9 +121,9 @@ class Baseline:
             with open_directory(self.place) as directory:
                 status = os.stat(self.name, dir_fd=directory.fd, follow_symlinks=False)
             if identity(status) != identity(written):
-                raise Fault(Status.DEVICE, CHANGED)
+                raise DeviceFault(CHANGED)
         except (Fault, OSError) as error:
-            raise Fault(Status.DEVICE, f"{self.words}: {why_of(error)}")
+            raise DeviceFault(f"{self.words}: {why_of(error)}")
 
     def settle(self) -> None:
         """Ends what a run has left that was killed while the names changed."""

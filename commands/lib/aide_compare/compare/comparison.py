@@ -6,7 +6,7 @@ from collections.abc import Mapping, Sequence
 from types import MappingProxyType
 from typing import TYPE_CHECKING, Any, NamedTuple
 
-from aide_compare.base.ending import Fault, Status, fault_of
+from aide_compare.base.ending import DeviceFault, Fault, fault_of
 from aide_compare.base.escapes import shown, shown_lines
 from aide_compare.base.options import MAX_DATABASE_BYTES, MAX_REPORT_BYTES
 from aide_compare.base.program import Answer
@@ -92,7 +92,7 @@ class Comparison:
     def known_lines(self) -> Lines:
         """Its lines; a Fault if there are none."""
         if self.lines is None:
-            raise Fault(Status.DEVICE, "nothing is known of the changes")
+            raise DeviceFault("nothing is known of the changes")
         return self.lines
 
     def reader(self) -> Reader:
@@ -100,7 +100,7 @@ class Comparison:
         lines = self.known_lines()
         if lines.is_cut:
             limit = self.request.max_report
-            raise Fault(Status.DEVICE, f"the changes have more than {limit} bytes")
+            raise DeviceFault(f"the changes have more than {limit} bytes")
         return reader_over(lines.fd)
 
     def fail(self, error: BaseException) -> None:

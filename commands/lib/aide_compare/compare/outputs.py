@@ -7,7 +7,7 @@ from collections.abc import Callable, Iterable
 from contextlib import suppress
 from functools import partial
 
-from aide_compare.base.ending import Fault, Status, write_all, write_blocks
+from aide_compare.base.ending import DeviceFault, write_all, write_blocks
 from aide_compare.base.escapes import shown
 from aide_compare.base.files import PRIVATE, given_descriptor
 from aide_compare.base.replacement import Replacement
@@ -54,5 +54,5 @@ def open_output(path: str, what: str) -> Output:
         return file_output(path, what, PRIVATE)
     words = f"cannot write {what} {shown(path)}"
     if not _is_open_for_writing(descriptor):
-        raise Fault(Status.DEVICE, f"{words}: the caller has not opened it for writing")
+        raise DeviceFault(f"{words}: the caller has not opened it for writing")
     return partial(write_blocks, descriptor, words=words)

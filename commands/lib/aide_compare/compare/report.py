@@ -3,7 +3,7 @@ from __future__ import annotations
 
 import os
 
-from aide_compare.base.ending import Fault, Status, write_all
+from aide_compare.base.ending import DeviceFault, write_all
 from aide_compare.base.files import nameless
 from aide_compare.base.program import PROGRAM, Answer, find_installed
 from aide_compare.base.words import SIDES
@@ -31,7 +31,7 @@ def report_of(comparison: Comparison) -> int:
 
     def take(block: bytes) -> None:
         if os.lseek(target, 0, os.SEEK_CUR) + len(block) > limit:
-            raise Fault(Status.DEVICE, f"the report has more than {limit} bytes")
+            raise DeviceFault(f"the report has more than {limit} bytes")
         write_all(target, block)
 
     program = find_installed(PROGRAM)

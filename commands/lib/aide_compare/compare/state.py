@@ -7,7 +7,7 @@ import re
 import time
 from typing import Any, NamedTuple
 
-from aide_compare.base.ending import Fault, Status
+from aide_compare.base.ending import DeviceFault
 from aide_compare.base.escapes import guarded, shown
 from aide_compare.base.files import read_file
 from aide_compare.base.words import date_of, status_of_counts
@@ -158,4 +158,4 @@ def read_state(path: str) -> State:
     try:
         return parse_state(data)
     except ValueError:
-        raise Fault(Status.DEVICE, f"{shown(path)} is no state file of aide-compare") from None
+        raise DeviceFault(f"{shown(path)} is no state file of aide-compare") from None

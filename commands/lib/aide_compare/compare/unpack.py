@@ -9,7 +9,7 @@ import zlib
 from collections.abc import Iterable, Iterator
 from itertools import chain
 
-from aide_compare.base.ending import Fault, OSErrorAsFault, Status, write_all
+from aide_compare.base.ending import DeviceFault, Fault, OSErrorAsFault, write_all
 from aide_compare.base.escapes import shown
 from aide_compare.base.files import (
     BLOCK,
@@ -41,7 +41,7 @@ class Opened:
         self.is_packed = False  # Whether its bytes were seen to be packed.
 
     def too_large(self, limit: int) -> Fault:
-        return Fault(Status.DEVICE, f"{self.words} has more than {limit} bytes unpacked")
+        return DeviceFault(f"{self.words} has more than {limit} bytes unpacked")
 
 
 class Copy:
@@ -131,7 +131,7 @@ def _unpacked(opened: Opened, limit: int) -> Iterator[bytes]:
             yield block
     except zlib.error as error:
         why = f"is compressed by gzip and is cut short or damaged: {shown(str(error), 100)}"
-        raise Fault(Status.DEVICE, f"{opened.words} {why}")
+        raise DeviceFault(f"{opened.words} {why}")
 
 
 def copy_opened(opened: Opened, limit: int) -> Copy:

@@ -8,7 +8,7 @@ import time
 from collections.abc import Iterator, Sequence
 from functools import partial
 
-from aide_compare.base.ending import Fault, OSErrorAsFault, Status, write_all
+from aide_compare.base.ending import DeviceFault, Fault, OSErrorAsFault, Status, write_all
 from aide_compare.base.escapes import shown
 from aide_compare.base.files import nameless, private_place
 from aide_compare.base.program import LINES, Answer, Drain, Tail, find_installed
@@ -158,12 +158,12 @@ def check_age(opened: Opened, limit: int) -> None:
         return
     if opened.written is None:
         why = "is not a regular file, so --max-age does not know its age"
-        raise Fault(Status.DEVICE, f"{opened.words} {why}")
+        raise DeviceFault(f"{opened.words} {why}")
     age = int(time.time() - opened.written)
     words = age_in_words(abs(age))
     if age < -MAX_CLOCKS_DIFFER:
         why = f"was written {words} in the future: is a clock wrong?"
-        raise Fault(Status.DEVICE, f"{opened.words} {why}")
+        raise DeviceFault(f"{opened.words} {why}")
     if age > limit:
         why = f"is {words} old, more than --max-age allows: does AIDE still run?"
-        raise Fault(Status.DEVICE, f"{opened.words} {why}")
+        raise DeviceFault(f"{opened.words} {why}")

@@ -15,7 +15,7 @@ from hashlib import sha256
 from typing import NamedTuple
 
 from aide_compare import VERSION
-from aide_compare.base.ending import Fault, Status
+from aide_compare.base.ending import DeviceFault, Fault
 from aide_compare.base.escapes import guarded, shown
 from aide_compare.base.files import read_file
 from aide_compare.base.replacement import replace
@@ -151,7 +151,7 @@ def run_in(store: str) -> Run | None:
         host, note, digest = json.loads(read_file(path, MAX_TEXT, "the note of the canary "))
         return Run(str(host), guarded(str(note)), str(digest))
     except (ValueError, TypeError):
-        raise Fault(Status.DEVICE, f"{shown(path)} is no note of a canary") from None
+        raise DeviceFault(f"{shown(path)} is no note of a canary") from None
 
 
 def is_in_report(run: Run, hosts: Sequence[Host]) -> bool:

@@ -7,7 +7,7 @@ import time
 from collections.abc import Mapping, Sequence
 from contextlib import closing
 
-from aide_compare.base.ending import Fault, Status
+from aide_compare.base.ending import DeviceFault, Fault, Status
 from aide_compare.base.escapes import encoded
 from aide_compare.base.kinds import duration, matching
 from aide_compare.base.options import (
@@ -150,9 +150,9 @@ def keep_comparison(directory: HostDirectory, request: HostsRequest) -> State:
     """Compares, keeps lines and errors, and returns the State."""
     if not directory.has(NEW_FILE):
         cause = directory.fetch_cause() or "see aide-compare hosts compare --help"
-        raise Fault(Status.DEVICE, f"nothing was fetched yet: {cause}")
+        raise DeviceFault(f"nothing was fetched yet: {cause}")
     if not directory.has(BASELINE):
-        raise Fault(Status.DEVICE, "there is no baseline yet; see aide-compare hosts add --help")
+        raise DeviceFault("there is no baseline yet; see aide-compare hosts add --help")
     with closing(NewFile(directory.fd)) as part:
         comparison = run_comparison(directory, request, part)
         directory.remove(LINES)

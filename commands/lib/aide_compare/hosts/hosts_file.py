@@ -1,7 +1,7 @@
 """The file of hosts: the name of a watched host in each line."""
 from __future__ import annotations
 
-from aide_compare.base.ending import Fault, Status
+from aide_compare.base.ending import DeviceFault
 from aide_compare.base.escapes import shown
 from aide_compare.base.files import MAX_TRUSTED_BYTES, is_missing, read_whole, trusted_text
 from aide_compare.base.replacement import replace
@@ -19,7 +19,7 @@ def hosts_of(path: str) -> list[str]:
     lines = [line.strip() for line in data.decode("utf-8", "surrogateescape").split("\n")]
     names = list(dict.fromkeys(line for line in lines if line and not line.startswith("#")))
     if not names:
-        raise Fault(Status.DEVICE, f"no host is in {shown(path)}: aide-compare hosts add adds one")
+        raise DeviceFault(f"no host is in {shown(path)}: aide-compare hosts add adds one")
     return names
 
 

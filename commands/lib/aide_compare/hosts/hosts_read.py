@@ -7,7 +7,7 @@ import os
 from collections.abc import Callable
 from contextlib import ExitStack, closing
 
-from aide_compare.base.ending import Fault, Status, reason
+from aide_compare.base.ending import DeviceFault, Fault, Status, reason
 from aide_compare.base.escapes import shown
 from aide_compare.base.files import BLOCK, is_missing, open_regular
 from aide_compare.base.words import SIDES, age_in_words
@@ -113,7 +113,7 @@ def read_host(
 def directory_of(name: str, store: str, seconds: int) -> HostDirectory:
     """The directory of a host that has one. Nothing is made for any other."""
     if not os.path.isdir(store):
-        raise Fault(Status.DEVICE, f"there is no directory {shown(store)}")
+        raise DeviceFault(f"there is no directory {shown(store)}")
     if is_missing(f"{store}/hosts/{check_name(name)}"):
-        raise Fault(Status.DEVICE, "was never compared")
+        raise DeviceFault("was never compared")
     return HostDirectory(store, name, seconds, fcntl.LOCK_SH)

@@ -12,7 +12,7 @@ import os
 from collections import Counter
 from collections.abc import Iterator
 
-from aide_compare.base.ending import Fault, Status, write_blocks
+from aide_compare.base.ending import DeviceFault, write_blocks
 from aide_compare.base.words import KINDS
 from aide_compare.changes.judged import Judged
 from aide_compare.changes.table import ORDER
@@ -68,6 +68,6 @@ def write_kept(target: int, comparison: Comparison, limit: int) -> Counts | None
     try:
         judged = Judged(reader_over(lines.fd))
     except Refused as refused:
-        raise Fault(Status.DEVICE, f"the lines of aide_lines are not understood: {refused}")
+        raise DeviceFault(f"the lines of aide_lines are not understood: {refused}")
     write_blocks(target, kept_lines(judged, limit))
     return judged.counts

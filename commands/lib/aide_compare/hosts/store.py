@@ -9,7 +9,15 @@ import re
 import time
 from contextlib import ExitStack, closing, suppress
 
-from aide_compare.base.ending import Fault, OSErrorAsFault, Status, reason, say, write_all
+from aide_compare.base.ending import (
+    DeviceFault,
+    Fault,
+    OSErrorAsFault,
+    Status,
+    reason,
+    say,
+    write_all,
+)
 from aide_compare.base.directories import closed_after, open_directory
 from aide_compare.base.escapes import encoded
 from aide_compare.base.files import copy_file, is_locked, open_regular, read_file, unlink
@@ -156,4 +164,4 @@ def make_private(path: str) -> None:
     with open_directory(path) as directory:
         if directory.others:
             text = f"another user can write in {path} or above it; run this command as that user"
-            raise Fault(Status.DEVICE, text)
+            raise DeviceFault(text)

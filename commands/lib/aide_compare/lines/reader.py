@@ -12,7 +12,7 @@ from contextlib import suppress
 from functools import partial
 from typing import Any, BinaryIO, NamedTuple, TypeVar
 
-from aide_compare.base.ending import Fault, Status
+from aide_compare.base.ending import DeviceFault
 from aide_compare.base.files import BLOCK
 from aide_compare.base.paths import SLASH, key_of_path
 from aide_compare.base.words import KINDS, SIDES, TRUSTED_SIDES, status_of_counts
@@ -128,11 +128,11 @@ class Forms:
 Outline = tuple[Form, bytes, bytes, bytes]
 
 
-class Refused(Fault):
+class Refused(DeviceFault):
     """What is wrong with a line, so that the whole is no stream of lines."""
 
     def __init__(self, number: int, words: str) -> None:
-        super().__init__(Status.DEVICE, f"line {number}: {words}")
+        super().__init__(f"line {number}: {words}")
 
 
 class EndCounts(NamedTuple):

@@ -16,7 +16,7 @@ from contextlib import suppress
 from functools import partial
 
 from aide_compare.base.directories import Directory, closed_after, names_in, open_directory
-from aide_compare.base.ending import Fault, OSErrorAsFault, Status, fault_of, say
+from aide_compare.base.ending import DeviceFault, Fault, OSErrorAsFault, fault_of, say
 from aide_compare.base.escapes import encoded, shown
 from aide_compare.base.files import in_memory
 from aide_compare.base.processes import run_on
@@ -46,7 +46,7 @@ def find_mailer() -> str:
     for path in (*beside, *MAILERS):
         if os.path.isfile(path) and os.access(path, os.X_OK):
             return path
-    raise Fault(Status.DEVICE, "cannot find sendmail, so no mail can be sent")
+    raise DeviceFault("cannot find sendmail, so no mail can be sent")
 
 
 def by_sendmail(path: str, seconds: int, message: bytes) -> None:
@@ -68,7 +68,7 @@ def by_sendmail(path: str, seconds: int, message: bytes) -> None:
         how = f"status {code if code > 0 else 128 - code} of sendmail"
     lines = [line for line in said.split(b"\n") if line.strip()]
     why = shown(lines[-1], 300) if lines else "it gave no reason"
-    raise Fault(Status.DEVICE, f"{how}: {why}")
+    raise DeviceFault(f"{how}: {why}")
 
 
 def alert(text: str) -> bool:
@@ -112,7 +112,7 @@ def deliver(way: Transport, message: bytes) -> None:
     log = "there is no system log either"
     if alert(f"no mail could be sent ({why}): {subject}"):
         log = "the system log has a line at priority alert"
-    raise Fault(Status.DEVICE, f"cannot send the mail: {why}; {log}")
+    raise DeviceFault(f"cannot send the mail: {why}; {log}")
 
 
 def queue_transport(path: str) -> Transport:
@@ -120,10 +120,9 @@ def queue_transport(path: str) -> Transport:
     lead elsewhere, as into a /tmp of its own."""
     with open_directory(path, make=True) as directory:
         if os.path.islink(path):
-            raise Fault(Status.DEVICE, f"{shown(path)} is a link: no mail would be sent")
+            raise DeviceFault(f"{shown(path)} is a link: no mail would be sent")
         if len(names_in(directory, MAIL)) >= MAX_WAITING:
-            text = f"{MAX_WAITING} mails wait already in {shown(path)}: none is sent"
-            raise Fault(Status.DEVICE, text)
+            raise DeviceFault(f"{MAX_WAITING} mails wait already in {shown(path)}: none is sent")
     name = f"{time.time_ns():020d}-{os.getpid()}{MAIL}"
 
     def keep(message: bytes) -> None:
@@ -151,7 +150,7 @@ def waiting_mail(directory: Directory, name: str) -> bytes:
         status = os.fstat(file.fileno())
         is_ours = stat.S_ISREG(status.st_mode) and status.st_uid == os.geteuid()
         if not is_ours or status.st_size > MAX_MAIL_BYTES:
-            raise Fault(Status.DEVICE, f"{shown(name)} is no mail that this user has put there")
+            raise DeviceFault(f"{shown(name)} is no mail that this user has put there")
         return file.read()
 
 
