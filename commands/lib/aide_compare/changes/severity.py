@@ -5,6 +5,7 @@ import os
 import stat
 from collections.abc import Callable, Iterator
 from functools import lru_cache
+from operator import attrgetter
 from typing import NamedTuple
 
 from aide_compare.base.database import RUN_BITS, SET_ID
@@ -40,8 +41,8 @@ def set_id_bits(rights: Side, mode: int) -> int:
     return mode & SET_ID
 
 
-def may_have_set_id(rights: Side) -> bool:
-    return rights is not None and set_id_bits(rights, rights.most) != 0
+def may_have_set_id(rights: Rights) -> bool:
+    return set_id_bits(rights, rights.most) != 0
 
 
 def has_other_type(old: Side, new: Side) -> bool:
@@ -60,10 +61,6 @@ def gains_set_id(old: Side, new: Side) -> bool:
         return False
     before = 0 if old is None else old.least
     return set_id_bits(new, new.most) & ~set_id_bits(old, before) != 0
-
-
-def has_capabilities(rights: Side) -> bool:
-    return rights is not None and rights.has_capabilities
 
 
 def gains_capabilities(old: Side, new: Side) -> bool:
@@ -112,15 +109,13 @@ def gains_writers(old: Side, new: Side) -> bool:
     return bool(new.most & GROUP_WRITE) and new.group != ROOT and not had_group
 
 
-def may_be_executable(rights: Side) -> bool:
-    if rights is None:
-        return False
+def may_be_executable(rights: Rights) -> bool:
     return (rights.is_file or not rights.type) and bool(rights.most & RUN_BITS)
 
 
-def either(test: Callable[[Side], bool]) -> Callable[[Side, Side], bool]:
+def either(test: Callable[[Rights], bool]) -> Callable[[Side, Side], bool]:
     """Whether this holds on one side."""
-    return lambda old, new: test(old) or test(new)
+    return lambda old, new: any(map(test, filter(None, (old, new))))
 
 
 def has_type(word: str) -> Callable[[Side, Side], bool]:
@@ -143,7 +138,7 @@ TESTS: dict[str, Callable[[Side, Side], bool]] = {
     "same-rights": has_same_rights,
     "set-id": either(may_have_set_id),
     "new-set-id": gains_set_id,
-    "capabilities": either(has_capabilities),
+    "capabilities": either(attrgetter("has_capabilities")),
     "new-capabilities": gains_capabilities,
     "new-acl": gains_acl,
     "new-writers": gains_writers,
