@@ -57,8 +57,9 @@ def _when(old: Values, new: Values) -> list[str]:
     return []
 
 
-def _one_side(values: Values, kind: str | None) -> str:
-    """As in "-rwsr-xr-x root:root 1265648 bytes", without what was not measured."""
+def _side_words(values: Values, kind: str) -> list[str]:
+    """The words for an entry that came or went, as "-rwsr-xr-x root:root 1265648 bytes", without
+    what was not measured. A program may be of severity high for its capabilities alone."""
     words = []
     if "Perm" in values:
         words.append(_value(values, "Perm", kind))
@@ -66,16 +67,8 @@ def _one_side(values: Values, kind: str | None) -> str:
         words.append(f"{_value(values, 'UID', kind)}:{_value(values, 'GID', kind)}")
     if kind == "File" and "Size" in values:
         words.append(f"{_value(values, 'Size', kind)} bytes")
-    return " ".join(words)
-
-
-def _side_words(values: Values, kind: str | None) -> list[str]:
-    """The words for an entry that came or went. A program may be of severity high for its
-    capabilities alone."""
-    words = [_one_side(values, kind)]
-    if values.get("Caps"):
-        words.append(word_of("Caps"))
-    return words
+    caps = [word_of("Caps")] if values.get("Caps") else []
+    return [" ".join(words), *caps]
 
 
 def _time_words(old: Values, new: Values, label: str) -> str:
