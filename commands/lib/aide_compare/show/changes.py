@@ -25,8 +25,7 @@ def _shown(label: str, value: Value, text: str | None) -> str | None:
     if text is not None:
         return guarded(text[:MAX_VALUE])
     if isinstance(value, int):
-        text = date_of(value) if FORMS[label] == "time" else str(value)
-        return text[:MAX_VALUE]
+        return date_of(value) if FORMS[label] == "time" else str(value)
     if value is None:
         return None
     return shown(value, MAX_VALUE)
