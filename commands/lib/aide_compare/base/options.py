@@ -109,15 +109,15 @@ class Asked:
 CONFIG = Option(
     "--config",
     "a configuration, as in aide-compare.conf(5), with OLD and NEW (none)",
-    metavar="CONF",
+    "CONF",
     letter="-c",
 )
 # In the file of defaults only, for a command line that names none.
-DATABASES = Option("--databases", "", metavar="OLD NEW", kind=file_path, number_of_values=2)
+DATABASES = Option("--databases", "", "OLD NEW", kind=file_path, number_of_values=2)
 AFTER = Option(
     "--after",
     "lines to read after the configuration, as report_level=summary",
-    metavar="TEXT",
+    "TEXT",
     kind=text_in_utf8,
     letter="-A",
     is_single=True,
@@ -125,7 +125,7 @@ AFTER = Option(
 STATE = Option(
     "--state",
     "the state file, with the result of a comparison",
-    metavar="FILE",
+    "FILE",
     kind=file_path,
 )
 # The most bytes of a database unpacked, unless an option says another number, and of a report.
@@ -135,7 +135,7 @@ MAX_RESULT_AGE = 26 * 3600
 MAX_SIZE = Option(
     "--max-size",
     "refuse a database of more bytes unpacked (1024G)",
-    metavar="SIZE",
+    "SIZE",
     kind=size,
     default=MAX_DATABASE_BYTES,
 )
@@ -143,55 +143,55 @@ MAX_SIZE = Option(
 MAX_AGE = Option(
     "--max-age",
     "refuse a new database that is older, as 50h, or from the future (0: no limit)",
-    metavar="TIME",
+    "TIME",
     kind=duration,
     default=0,
 )
 RESULT_AGE = Option(
     "--max-age",
     "an older result counts as no comparison (26h; 0: no limit)",
-    metavar="TIME",
+    "TIME",
     kind=duration,
     default=MAX_RESULT_AGE,
 )
 EXCLUDE_FROM = Option(
     "--exclude-from",
     "leave out the changes at the paths that FILE names, as the example debian.without",
-    metavar="FILE",
+    "FILE",
     is_repeated=True,
 )
 EXCLUDE = Option(
     "--exclude",
     "leave out the changes at this path or pattern",
-    metavar="PATTERN",
+    "PATTERN",
     is_repeated=True,
 )
 TRUSTED = Option(
     "--trusted",
     "keep quiet about what changed on a trusted machine in the same way: its baseline and its new"
     " database, whose changes you have read, or what aide-compare archive made",
-    metavar="OLD NEW",
+    "OLD NEW",
     is_single=True,
     number_of_values=2,
 )
 KEEP_OPEN = Option(
     "--keep-open",
     "accept all but the changes of these paths, as '/etc/**'",
-    metavar="PATTERN",
+    "PATTERN",
     kind=pattern,
     is_repeated=True,
 )
 SHA256 = Option(
     "--sha256",
     "the SHA-256 in the report or mail that was read, or its first 16 digits or more",
-    metavar="DIGEST",
+    "DIGEST",
     kind=digest_digits,
 )
-TO = Option("--to", "where the mail goes", metavar="ADDRESS", kind=address)
+TO = Option("--to", "where the mail goes", "ADDRESS", kind=address)
 MAIL_TIME = Option(
     "--mail-time",
     "how long sending may take (60s)",
-    metavar="TIME",
+    "TIME",
     kind=duration,
     default=60,
 )
@@ -199,28 +199,28 @@ ATTACH_PAGE = Option("--attach-page", "attach the page with all values to the te
 WEEKLY = Option(
     "--weekly",
     "with --state: send a heartbeat on a day of the week, as Mon",
-    metavar="DAY",
+    "DAY",
     choices=DAYS,
 )
 WARNING = Option(
     "--warning",
     "of nagios: WARNING from this limit on",
-    metavar="LIMIT",
+    "LIMIT",
     kind=alarm_limit,
 )
 CRITICAL = Option(
     "--critical",
     "of nagios: CRITICAL from this limit on",
-    metavar="LIMIT",
+    "LIMIT",
     kind=alarm_limit,
 )
-USER = Option("--user", "drop privileges to this user first", metavar="NAME")
+USER = Option("--user", "drop privileges to this user first", "NAME")
 # Where the databases of many hosts are kept, and how long a host may take.
 STORE = "/var/lib/aide-compare"
 HOST_TIME = Option(
     "--time",
     "the most time for a host (10m)",
-    metavar="TIME",
+    "TIME",
     kind=duration,
     default=600,
 )
@@ -231,7 +231,7 @@ HOSTS_OPERAND = Operand(
 HOSTS_OPTION = Option(
     "--hosts-file",
     f"the file that gets the name of a host, or loses it ({HOSTS_FILE})",
-    metavar="FILE",
+    "FILE",
     default=HOSTS_FILE,
 )
 
