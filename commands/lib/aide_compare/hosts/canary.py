@@ -20,6 +20,7 @@ from aide_compare.base.escapes import guarded, shown
 from aide_compare.base.files import read_file
 from aide_compare.base.replacement import replace
 from aide_compare.base.words import TRUSTED_SIDES
+from aide_compare.compare.configuration import NONE, configuration_in
 from aide_compare.compare.exclusions import Exclusions
 from aide_compare.compare.state import State, read_state
 from aide_compare.compare.unpack import Copy, copy_database
@@ -65,7 +66,7 @@ class Run(NamedTuple):
 def rules_of(exclusions: Exclusions | None, configuration: str | None) -> str:
     """The SHA-256 of what decides which changes a comparison lists."""
     text = exclusions.text if exclusions else b""
-    options = read_file(configuration, 4 << 20, "the configuration ") if configuration else b""
+    options = configuration_in(configuration or NONE)
     return sha256(repr([VERSION, text, options]).encode()).hexdigest()
 
 
