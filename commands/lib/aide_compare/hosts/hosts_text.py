@@ -124,9 +124,7 @@ def short_names(shared: SharedChange) -> str:
 
 
 def more_hosts(count: int) -> str:
-    if count <= 0:
-        return ""
-    return f" +{count}"
+    return f" +{count}" if count else ""
 
 
 def grouped_lines(report: Report, places: Iterable[int]) -> Iterator[str]:
