@@ -121,19 +121,13 @@ def read_file(path: str | bytes, limit: int, what: str = "") -> bytes:
         return read_whole(descriptor, limit, what + shown(path))
 
 
-def open_trusted(path: str, what: str) -> int:
-    """A descriptor of a file of the administrator, such as "the keyring". Only root and the caller
-    may be able to change it."""
-    descriptor, is_safe = _opened(path, f"{what} ")
-    if not is_safe or others_can_write(os.fstat(descriptor)):
-        os.close(descriptor)
-        raise DeviceFault(f"other users can write {what} {shown(path)}")
-    return descriptor
-
-
 def trusted_text(path: str, what: str) -> bytes:
-    """The bytes of a file of the administrator."""
-    with closed_after(open_trusted(path, what)) as descriptor:
+    """The bytes of a file of the administrator, such as "the keyring". Only root and the caller may
+    be able to change it."""
+    descriptor, is_safe = _opened(path, f"{what} ")
+    with closed_after(descriptor):
+        if not is_safe or others_can_write(os.fstat(descriptor)):
+            raise DeviceFault(f"other users can write {what} {shown(path)}")
         return read_whole(descriptor, MAX_TRUSTED_BYTES, f"{what} {shown(path)}")
 
 
