@@ -37,11 +37,8 @@ STRENGTH = (
     *("SHA256", "SHA512", "SHA3-256", "SHA3-512", "SHA512/256", "STRIBOG256", "STRIBOG512"),
     *("WHIRLPOOL", "RMD160", "SHA1", "GOST", "TIGER", "HAVAL", "MD5", "CRC32", "CRC32B"),
 )
-# The columns of digests in a database, by these names.
-COLUMNS_OF_DIGESTS = {
-    label: label.lower().replace("-", "_").replace("/", "_") for label in STRENGTH
-}
-DIGEST_COLUMNS = frozenset(COLUMNS_OF_DIGESTS.values())
+# The names of their columns in a database.
+DIGEST_COLUMNS = frozenset(label.lower().replace("-", "_").replace("/", "_") for label in STRENGTH)
 
 
 def word_of(label: str) -> str:
