@@ -81,11 +81,10 @@ class Row:
 
 def output_rows(request: CompareRequest) -> list[Row]:
     """The outputs that options name, with their places open."""
-    rows = []
-    for row, path in request.outputs:
-        what = f"the output of {row.option.name}"
-        rows.append(Row(open_output(path, what), row.make))
-    return rows
+    return [
+        Row(open_output(path, f"the output of {row.option.name}"), row.make)
+        for row, path in request.outputs
+    ]
 
 
 def state_bytes(comparison: Comparison, _judged: Judged | None) -> Sequence[bytes]:
