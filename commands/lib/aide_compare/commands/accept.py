@@ -139,11 +139,6 @@ open.""",
 YES = ("y", "yes")
 
 
-def can_ask() -> bool:
-    """Whether a person can read the question and answer it."""
-    return os.isatty(0) and os.isatty(1)
-
-
 def compare_and_print(new: str, baseline: str) -> State:
     """Compares as aide-compare does, with the same defaults and privileges, and prints what
     differs."""
@@ -188,7 +183,8 @@ class AcceptOptions(Asked):
         """Refuses what means nothing without another word, or with it."""
         if len(self.files) not in (0, 2):
             raise usage_fault("name NEW and BASELINE, or none")
-        if not self.digest and (self.is_quiet or not can_ask()):
+        can_ask = os.isatty(0) and os.isatty(1) and not self.is_quiet
+        if not self.digest and not can_ask:
             raise usage_fault("give --sha256 DIGEST, or run this on a terminal to be asked")
 
 
