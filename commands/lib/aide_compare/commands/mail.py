@@ -131,7 +131,7 @@ def message_of(
     page = None
     if request.has_page and comparison.differs:
         page = page_of(comparison, judged, notes)
-    lines = lines_of_mail(request, comparison, judged, notes)
+    lines = lines_of_mail(comparison, judged, notes)
     text = clean("".join(f"{line}\n" for line in lines))
     subject = subject_of(state, columns, comparison.warnings)
     yield build(request.address, subject, text, page)
@@ -145,9 +145,7 @@ def notes_of(request: MailRequest, comparison: Comparison) -> list[str]:
     return notes + [f"{HELP.name}: {note}" for note in request.notes]
 
 
-def lines_of_mail(
-    request: MailRequest, comparison: Comparison, judged: Judged | None, notes: Sequence[str]
-) -> list[str]:
+def lines_of_mail(comparison: Comparison, judged: Judged | None, notes: Sequence[str]) -> list[str]:
     """The lines of the text."""
     from aide_compare.mail.columns import note_lines
     from aide_compare.mail.text import MAX_LINES, Mail, text_of_changes, text_of_unjudged
