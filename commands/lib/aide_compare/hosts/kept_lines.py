@@ -18,8 +18,9 @@ from aide_compare.changes.judged import Judged
 from aide_compare.changes.table import ORDER
 from aide_compare.compare.comparison import Comparison
 from aide_compare.lines.change import Counts
-from aide_compare.lines.reader import COUNTED, ENCODE, Forms, Refused, reader_over
+from aide_compare.lines.reader import COUNTED, Forms, Refused, reader_over
 from aide_compare.show.digest import rooms_of
+from aide_compare.show.json_lines import line_of
 
 SHARES = 16  # Each severity of each group of owners has one of so many shares of the limit.
 SIZES = "select level, owners, sum(line_size) from changes group by 1, 2"
@@ -56,7 +57,7 @@ def end_line(judged: Judged, counted: Counter[str]) -> bytes:
     names = {**dict(zip(KINDS, KINDS)), **COUNTED, "": "others"}
     kept = reader.counts._replace(**{name: counted[key] for key, name in names.items()})
     fields = {**reader.end, **kept._asdict(), "status": kept.status}
-    return ENCODE({**fields, "standings": judged.counts._asdict()}).encode() + b"\n"
+    return line_of({**fields, "standings": judged.counts._asdict()})
 
 
 def write_kept(target: int, comparison: Comparison, limit: int) -> Counts | None:
