@@ -7,7 +7,6 @@ from aide_compare.base.ending import DeviceFault, usage_fault
 from aide_compare.base.files import is_missing
 from aide_compare.base.options import (
     KEEP_OPEN,
-    MAX_SIZE,
     QUIET,
     SHA256,
     HostsAsked,
@@ -36,11 +35,6 @@ class HostAcceptRequest(HostsAsked):
     """What the options of `hosts accept` ask for."""
 
     is_quiet: bool = field(QUIET, help="do not print what was done")
-    max_size: int = field(
-        MAX_SIZE,
-        default=MAX_BASELINE,
-        help="refuse a database of more bytes unpacked (4G)",
-    )
     digest: str = field(
         SHA256,
         default="",
@@ -67,7 +61,7 @@ def main(arguments: Sequence[str]) -> int:
         baseline=directory.file(BASELINE),
         digest=request.digest,
         keep_open=request.keep_open,
-        max_size=request.max_size,
+        max_size=MAX_BASELINE,
         came="fetched",
     )
     return accept.run(next_baseline, request.is_quiet)
