@@ -11,7 +11,6 @@ import re
 import stat
 from collections.abc import Sequence
 from contextlib import suppress
-from functools import lru_cache
 from typing import NamedTuple
 
 from aide_compare.base.escapes import shown
@@ -182,7 +181,6 @@ def capabilities_text(value: bytes) -> str | None:
     return _cut(text.decode())
 
 
-@lru_cache(maxsize=4096)
 def mode_text(digits: bytes, kind: str | None) -> str | None:
     """Permissions such as 4755 as ls prints them: -rwsr-xr-x, without the first letter if the type
     is not known."""
