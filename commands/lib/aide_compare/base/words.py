@@ -50,6 +50,11 @@ def counted(number: int, word: str) -> str:
     return f"{number} {word}s"
 
 
+def capitalized(text: str) -> str:
+    """A text that begins a sentence."""
+    return text[:1].upper() + text[1:]
+
+
 def status_of_counts(counts: tuple[int, int, int]) -> int:
     """The status of a comparison with these counts of what was added, removed and changed."""
     return sum(bit for bit, count in zip((1, 2, 4), counts) if count)

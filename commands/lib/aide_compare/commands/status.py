@@ -33,7 +33,7 @@ from aide_compare.base.options import (
     option,
 )
 from aide_compare.base.parser import Help, defaults_for, read
-from aide_compare.base.words import SEVERITIES, minute_of
+from aide_compare.base.words import SEVERITIES, capitalized, minute_of
 from aide_compare.compare.state import DAILY, State, read_state
 from aide_compare.show.check import Answer, Level, answer_of
 from aide_compare.show.result import known_counts, result_text, time_text
@@ -134,8 +134,7 @@ def paragraph(state: State, max_age: int) -> list[str]:
     lines = [f"Last comparison: {time_text(state, max_age)}"]
     if state.status > 7:
         return [*lines, f"It failed with status {state.status}:", f"  {state.error}"]
-    text = result_text(state)
-    lines.append(f"{text[:1].upper()}{text[1:]}.")
+    lines.append(f"{capitalized(result_text(state))}.")
     lines.append(database_line("Old", state.old, state.old_written))
     lines.append(database_line("New", state.new, state.new_written))
     return lines + command_lines(state)

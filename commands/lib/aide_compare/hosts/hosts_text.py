@@ -10,7 +10,7 @@ from functools import partial
 from typing import NamedTuple
 
 from aide_compare.base.escapes import guarded
-from aide_compare.base.words import SEVERITIES, counted
+from aide_compare.base.words import SEVERITIES, capitalized, counted
 from aide_compare.changes.table import Table
 from aide_compare.hosts.hosts_read import words_of
 from aide_compare.hosts.report_values import CUT, UNREADABLE, Host, SharedChange, Summary
@@ -53,7 +53,7 @@ def headline(summary: Summary) -> str:
 def canary_lines(summary: Summary) -> list[str]:
     """Beside which host the others were compared, or why they were not; nothing without a
     canary."""
-    return [f"{line[:1].upper()}{line[1:]}" for line in summary.canary]
+    return list(map(capitalized, summary.canary))
 
 
 def not_listed(host: Host) -> str:

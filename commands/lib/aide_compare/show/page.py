@@ -15,7 +15,7 @@ from typing import TYPE_CHECKING
 
 from aide_compare.base.escapes import encoded, guarded, shown
 from aide_compare.base.files import private_file
-from aide_compare.base.words import KINDS, SEVERITIES, SIDES, minute_of
+from aide_compare.base.words import KINDS, SEVERITIES, SIDES, capitalized, minute_of
 from aide_compare.lines.attributes import CONTENT, FORMS, STRENGTH, word_of
 from aide_compare.changes.table import BY_PACKAGE, LISTED, RECORDED, Marks
 from aide_compare.lines.change import (
@@ -271,8 +271,8 @@ def heading_of(comparison: Comparison, rows: Rows, title: str) -> Fields:
         databases.append({"side": side, "name": name, "time": time, "sha256": copy.sha256})
     remarks = rows.remarks()
     if counts.left_out:
-        remarks.insert(0, f"{counts.left_out_words().capitalize()}.")
-    remarks += [guarded(note[:1].upper() + note[1:]) for note in comparison.notes[:MAX_NOTES]]
+        remarks.insert(0, f"{capitalized(counts.left_out_words())}.")
+    remarks += [guarded(capitalized(note)) for note in comparison.notes[:MAX_NOTES]]
     total = f"{end.total:,} in the new database"
     return {
         "title": title,
