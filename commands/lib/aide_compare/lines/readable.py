@@ -1,8 +1,8 @@
 """The values of a change, and what they say to people in the words of the system's tools, with
 bytes of others escaped.
 
-Nothing is refused here: a value that does not decode has no text, a long text is cut, and the exact
-value stands beside it.
+Nothing is refused here: a value of another form, which is a ValueError of the function that decodes
+it, has no text, a long text is cut, and the exact value stands beside it.
 """
 from __future__ import annotations
 
@@ -67,14 +67,11 @@ def exact_bytes(value: str | bytes) -> bytes:
     return value
 
 
-def _from_base64(text: bytes) -> bytes | None:
-    """The bytes that a field has in base 64, None if it is not such a field. AIDE writes no bytes
-    as 0."""
+def _from_base64(text: bytes) -> bytes:
+    """The bytes that a field has in base 64. AIDE writes no bytes as 0."""
     if text == b"0":
         return b""
-    with suppress(ValueError):
-        return base64.b64decode(text, validate=True)
-    return None
+    return base64.b64decode(text, validate=True)
 
 
 def _cut(text: str) -> str:
@@ -83,47 +80,42 @@ def _cut(text: str) -> str:
     return f"{text[:MAX_TEXT]}..."
 
 
-def _acl_entries(text: bytes) -> list[str] | None:
-    """The entries of a list, each with what the mask leaves of it, or None."""
+def _acl_entries(text: bytes) -> list[str]:
+    """The entries of a list, each with what the mask leaves of it."""
     lines = text.rstrip(b"\n").split(b"\n", MAX_ACL_ENTRIES) if text else []
     entries = []
     for line in lines:
         match = re.fullmatch(ACL_ENTRY, line)
         if match is None:
-            return None
+            raise ValueError
         entries.append(" ".join(shown(part) for part in match.groups() if part))
     return entries
 
 
-def acl_text(value: bytes) -> str | None:
+def acl_text(value: bytes) -> str:
     """Both lists of a field, `POSIX,` and both in base 64, in one line as getfacl prints them: that
     of defaults has `default:` before each entry."""
     kind, *fields = value.split(b",", 3)
     if kind != b"POSIX" or len(fields) != 2:
-        return None
+        raise ValueError
     words: list[str] = []
     for before, field in zip(("", "default:"), fields):
-        text = _from_base64(field)
-        entries = None if text is None else _acl_entries(text)
-        if entries is None:
-            return None
-        words += [before + entry for entry in entries]
+        words += [before + entry for entry in _acl_entries(_from_base64(field))]
     return _cut(", ".join(words))
 
 
-def _extended_attributes(value: bytes) -> list[tuple[bytes, bytes]] | None:
+def _extended_attributes(value: bytes) -> list[tuple[bytes, bytes]]:
     """The names and values of a field: their number, each name with percent escapes, each value in
-    base 64; or None."""
+    base 64."""
     number, *fields = value.split(b",")
     if not re.fullmatch(COUNT, number) or len(fields) != 2 * int(number):
-        return None
+        raise ValueError
     attributes = []
     for field, encoded in zip(fields[::2], fields[1::2]):
         name = unescaped(field)
-        data = _from_base64(encoded)
-        if not name or data is None:
-            return None
-        attributes.append((name, data))
+        if not name:
+            raise ValueError
+        attributes.append((name, _from_base64(encoded)))
     return attributes
 
 
@@ -138,14 +130,11 @@ def _attribute_text(name: bytes, data: bytes) -> str:
     return f"0s{base64.b64encode(data[:MAX_TEXT]).decode()}"
 
 
-def xattrs_text(value: bytes) -> str | None:
+def xattrs_text(value: bytes) -> str:
     """All attributes of a field in one line: NAME: VALUE; NAME: VALUE."""
-    attributes = _extended_attributes(value)
-    if attributes is None:
-        return None
     parts = []
     length = 0
-    for name, data in attributes:
+    for name, data in _extended_attributes(value):
         escaped = shown(name, MAX_NAME).translate(NAME_ESCAPES)
         parts.append(f"{escaped}: {_attribute_text(name, data)}")
         length += len(parts[-1])
@@ -154,17 +143,16 @@ def xattrs_text(value: bytes) -> str | None:
     return _cut("; ".join(parts))
 
 
-def label_text(value: bytes) -> str | None:
+def label_text(value: bytes) -> str:
     """A label of SELinux, which AIDE keeps in base 64."""
-    label = _from_base64(value) or b""
-    return shown(label.removesuffix(b"\0"), MAX_TEXT)
+    return shown(_from_base64(value).removesuffix(b"\0"), MAX_TEXT)
 
 
-def flags_text(value: bytes) -> str | None:
+def flags_text(value: bytes) -> str:
     """The letters of a number of flags. Flags without a letter follow as a number, so that no
     change is invisible."""
     if not value.isdigit() or len(value) > 20:
-        return None
+        raise ValueError
     flags = int(value)
     text = "".join(letter if flags & bit else "-" for letter, bit in FLAGS)
     unknown = flags & ~KNOWN_FLAGS
@@ -173,19 +161,19 @@ def flags_text(value: bytes) -> str | None:
     return text
 
 
-def capabilities_text(value: bytes) -> str | None:
+def capabilities_text(value: bytes) -> str:
     """The text that AIDE keeps in base 64, as libcap made it."""
-    text = _from_base64(value) or b""
+    text = _from_base64(value)
     if not re.fullmatch(CAPABILITIES_TEXT, text):
-        return None
+        raise ValueError
     return _cut(text.decode())
 
 
-def mode_text(digits: bytes, kind: str | None) -> str | None:
+def mode_text(digits: bytes, kind: str | None) -> str:
     """Permissions such as 4755 as ls prints them: -rwsr-xr-x, without the first letter if the type
     is not known."""
     if len(digits) != 4 or digits.strip(b"01234567"):
-        return None
+        raise ValueError
     mode = int(digits, 8)
     if kind in TYPES:
         return stat.filemode(TYPES[kind] | mode)
@@ -206,11 +194,12 @@ def decoded(label: str, value: Value, kind: str | None) -> str | None:
     None if nothing is to decode."""
     if value is None or isinstance(value, int):
         return None
-    if label == "Perm":
-        return mode_text(exact_bytes(value), kind)
-    if label not in _DECODERS:
-        return None
-    return _DECODERS[label](exact_bytes(value)) or None
+    with suppress(ValueError):
+        if label == "Perm":
+            return mode_text(exact_bytes(value), kind)
+        if label in _DECODERS:
+            return _DECODERS[label](exact_bytes(value)) or None
+    return None
 
 
 def kinds_of(change: Change) -> Sequence[str | None]:
