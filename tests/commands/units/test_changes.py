@@ -73,8 +73,9 @@ class ChangesTest(ModuleTest):
         self.expect("the words", COUNTS.words(), "6 open (1 high), 3 recorded of 136 changes")
         self.expect("left out", COUNTS.left_out_words(), "left out: 7 of 136 changes")
         self.expect("silent ones", Counts(same=1).words(), "1 change, all silent")
-        line = "open=6 recorded=3 left_out=7 trusted=20 same=100 high=1 medium=3 low=5"
-        self.expect("the line", COUNTS.line(), line)
+        words = "open=6 recorded=3 left_out=7 trusted=20 same=100 high=1 medium=3 low=5"
+        found = [f"{word}={number}" for word, number in COUNTS.numbers().items()]
+        self.expect("the numbers", found, words.split())
         for counts, changes, fits in (
             (COUNTS, 136, True),
             (COUNTS, 135, False),

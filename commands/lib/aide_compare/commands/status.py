@@ -36,7 +36,7 @@ from aide_compare.base.parser import Help, defaults_for, read
 from aide_compare.base.words import SEVERITIES, capitalized, minute_of
 from aide_compare.compare.state import DAILY, State, read_state
 from aide_compare.show.check import Answer, Level, answer_of
-from aide_compare.show.result import known_counts, result_text, time_text
+from aide_compare.show.result import result_text, time_text
 
 HELP = Help(
     name="aide-compare status",
@@ -182,7 +182,7 @@ def metric_lines(name: str, help: str, value: int | None) -> str:
 def metrics_of(state: State) -> str:
     """The text that the node exporter reads."""
     values = (state.told_status, state.added, state.removed, state.changed, state.time)
-    counts = known_counts(state.standings)
+    counts = state.standings.numbers() if state.standings else {}
     rows = [(name, text, value) for (name, text), value in zip(ENTRIES.items(), values)]
     rows += [(f"{word}_changes", text, counts.get(word)) for word, text in CHANGES.items()]
     lines = [metric_lines(*row) for row in rows]

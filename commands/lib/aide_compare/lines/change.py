@@ -198,8 +198,7 @@ class Counts(NamedTuple):
         """As in "left out: 3 of 22 changes"."""
         return f"left out: {self.left_out} of {counted(self.total, 'change')}"
 
-    def line(self) -> str:
-        """As in "open=3 recorded=41 left_out=3 trusted=0 same=468 high=1 medium=40 low=3"."""
-        standings = [f"{each.key}={self.of(each)}" for each in reversed(Standing)]
-        severities = [f"{each}={self.of_severity(each)}" for each in SEVERITIES]
-        return " ".join(standings + severities)
+    def numbers(self) -> dict[str, int]:
+        """Those of all standings and severities, by their words."""
+        standings = {standing.key: self.of(standing) for standing in reversed(Standing)}
+        return {**standings, **{word: self.of_severity(word) for word in SEVERITIES}}

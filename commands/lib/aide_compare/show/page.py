@@ -260,8 +260,7 @@ def heading_of(comparison: Comparison, rows: Rows, title: str) -> Fields:
     """What stands above the changes of a comparison."""
     end = comparison.known_lines().end
     counts = comparison.standings or Counts()
-    words = {standing.value: counts.of(standing) for standing in reversed(Standing)}
-    words.update({severity: counts.of_severity(severity) for severity in SEVERITIES})
+    words = {word.replace("_", " "): number for word, number in counts.numbers().items()}
     words.update(zip(KINDS, end.kinds))
     databases = []
     for side in SIDES:

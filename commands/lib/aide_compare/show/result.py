@@ -1,9 +1,8 @@
 """The result of a comparison in words, as its state file has it."""
 from __future__ import annotations
 
-from aide_compare.base.words import SEVERITIES, age_in_words, minute_of
+from aide_compare.base.words import age_in_words, minute_of
 from aide_compare.compare.state import State, not_compared
-from aide_compare.lines.change import Counts, Standing
 
 
 def result_text(state: State) -> str:
@@ -24,13 +23,15 @@ def result_text(state: State) -> str:
 
 def result_numbers(state: State) -> str:
     """What a comparison found, as numbers for graphs, each with a blank behind it; "" if nothing
-    was compared."""
+    was compared. As in "added=1 removed=0 changed=2 open=3 recorded=0 left_out=0 trusted=0 same=0
+    high=1 medium=2 low=0 "."""
     if state.status > 7:
         return ""
-    numbers = f"added={state.added} removed={state.removed} changed={state.changed} "
+    text = f"added={state.added} removed={state.removed} changed={state.changed} "
     if state.standings:
-        numbers += f"{state.standings.line()} "
-    return numbers
+        for word, number in state.standings.numbers().items():
+            text += f"{word}={number} "
+    return text
 
 
 def time_text(state: State, max_age: int) -> str:
@@ -43,14 +44,3 @@ def time_text(state: State, max_age: int) -> str:
     if state.is_older(max_age):
         text += f": there should have been one in the last {age_in_words(max_age)}"
     return text
-
-
-def known_counts(counts: Counts | None) -> dict[str, int]:
-    """The numbers of all standings and severities by their words; none if nobody has judged the
-    changes."""
-    if counts is None:
-        return {}
-    numbers = {standing.key: counts.of(standing) for standing in Standing}
-    for severity in SEVERITIES:
-        numbers[severity] = counts.of_severity(severity)
-    return numbers
