@@ -101,10 +101,10 @@ def read_lines(comparison: Comparison) -> Lines:
         digests = {side: str(fields[side]["sha256"]) for side in databases}
         skipped = {side: fields[side]["skipped"] for side in SIDES if fields[side]["skipped"]}
         names = {side: column_names(databases[side], skipped[side]) for side in skipped}
+        if end.status != answer.status:
+            raise ValueError
     except ODD:
         raise odd_answer(find_installed(LINES), answer) from None
-    if end.status != answer.status:
-        raise odd_answer(find_installed(LINES), answer)
     comparison.status = answer.status
     comparison.skipped = names
     # The program has read what it has compared, so it knows the digests of whole databases.
