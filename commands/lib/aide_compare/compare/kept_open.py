@@ -120,15 +120,12 @@ def keep_open(old: Copy, new: Copy, is_open: Callable[[bytes], bool]) -> Merged:
                 if side in lines:
                     file.write(lines[side])
             if former.columns != latter.columns:
-                raise _other_columns(new)
+                raise Fault(
+                    Status.DATABASE,
+                    f"refused: {shown(new.name)} has other columns (@@db_spec) than the baseline,"
+                    " so one database cannot contain lines of both",
+                    "nothing can be kept open; accept all of it",
+                )
             file.write(latter.end)
             shutil.copyfileobj(latter.file, file, BLOCK)
     return Merged(Copy(target, new.name, new.written), counts)
-
-
-def _other_columns(new: Copy) -> Fault:
-    why = (
-        f"refused: {shown(new.name)} has other columns (@@db_spec) than the baseline, "
-        "so one database cannot contain lines of both"
-    )
-    return Fault(Status.DATABASE, why, "nothing can be kept open; accept all of it")
