@@ -209,11 +209,11 @@ class AcceptWorkTest(ModuleTest):
         old = in_memory(b"old")
         baseline: Any = SimpleNamespace(path="old.db", reading=lambda: old)
         request = accept.AcceptRequest("new.db", "old.db", "", (), 1 << 20)
-        counts = Counter[str]()
-        with mock.patch.object(accept, "keep_open", return_value=Merged(merged, counts)):
+        result = Merged(merged, Counter[str](), [])
+        with mock.patch.object(accept, "keep_open", return_value=result):
             with mock.patch.object(accept, "refuse_unsound") as refuse:
                 got = accept.merge(request, new, baseline)
-        self.expect("the merged one", got, Merged(merged, counts))
+        self.expect("the merged one", got, result)
         self.expect(
             "what is read", refuse.mock_calls, [mock.call(new, mock.ANY), mock.call(merged)]
         )

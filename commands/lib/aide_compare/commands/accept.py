@@ -20,7 +20,7 @@ from aide_compare.commands.compare import Printer
 from aide_compare.commands.compare_request import given_by, with_defaults
 from aide_compare.commands.defaults import machines_databases
 from aide_compare.compare.baseline import Baseline
-from aide_compare.compare.kept_open import Merged, Patterns, keep_open
+from aide_compare.compare.kept_open import Merged, keep_open
 from aide_compare.compare.soundness import refuse_unsound
 from aide_compare.compare.state import State
 from aide_compare.compare.unpack import Copy, Opened, copy_opened, open_database
@@ -84,9 +84,8 @@ def merge(request: AcceptRequest, new: Copy, baseline: Baseline) -> Merged:
         raise DeviceFault(text)
     old = copy_opened(Opened("old", baseline.path, descriptor), request.max_size)
     refuse_unsound(new, old)
-    patterns = Patterns(request.keep_open)
-    merged = keep_open(old, new, patterns)
-    for unused in patterns.unused():
+    merged = keep_open(old, new, request.keep_open)
+    for unused in merged.unused:
         text = f"refused: nothing that differs is kept open by {shown(unused.text, 200)}"
         raise Fault(Status.DATABASE, text)
     refuse_unsound(merged.copy)

@@ -22,25 +22,6 @@ OLD_SIDE = 0
 NEW_SIDE = 1
 
 
-class Patterns:
-    """The paths that patterns leave open, and how many changes each of them did. Asked only of
-    changes."""
-
-    def __init__(self, patterns: Sequence[Pattern]) -> None:
-        self.patterns = patterns
-        self.counts: Counter[Pattern] = Counter()
-
-    def __call__(self, key: bytes) -> bool:
-        pieces = path_of(key)[1:].split(b"/")
-        matching = [pattern for pattern in self.patterns if pattern.matches(pieces)]
-        self.counts.update(matching)
-        return bool(matching)
-
-    def unused(self) -> list[Pattern]:
-        """The patterns that left nothing open."""
-        return [pattern for pattern in self.patterns if pattern not in self.counts]
-
-
 class SidedEntry(NamedTuple):
     """An entry of one of the two databases. They are ordered by the key, then by the side."""
 
@@ -85,11 +66,12 @@ class EntryReader:
 
 
 class Merged(NamedTuple):
-    """A database that was merged, and how many of the added, removed and changed paths stay open
-    in it."""
+    """A database that was merged, how many of the added, removed and changed paths stay open in it,
+    and the patterns that keep none of them open."""
 
     copy: Copy
     counts: Counter[str]
+    unused: list[Pattern]
 
 
 def _kind_of(lines: dict[int, bytes]) -> str:
@@ -101,11 +83,12 @@ def _kind_of(lines: dict[int, bytes]) -> str:
     return "changed"
 
 
-def keep_open(old: Copy, new: Copy, is_open: Callable[[bytes], bool]) -> Merged:
-    """The new database with the old entries of the paths that stay open. `is_open` is asked for the
-    key of each path whose lines differ. Columns that differ are a Fault of status 24."""
+def keep_open(old: Copy, new: Copy, patterns: Sequence[Pattern]) -> Merged:
+    """The new database with the old entries of the paths that patterns keep open. Columns that
+    differ are a Fault of status 24."""
     target = nameless()
     counts: Counter[str] = Counter()
+    used: set[Pattern] = set()
     with OSErrorAsFault("cannot make a database of which a part is open"):
         with open(os.dup(target), "wb", BLOCK) as file:
             former = EntryReader(old)
@@ -114,9 +97,13 @@ def keep_open(old: Copy, new: Copy, is_open: Callable[[bytes], bool]) -> Merged:
             for key, group in groupby(entries, key_of_entry):
                 lines = {entry.side: entry.line for entry in group}
                 side = NEW_SIDE
-                if lines.get(OLD_SIDE) != lines.get(NEW_SIDE) and is_open(key):
-                    counts[_kind_of(lines)] += 1
-                    side = OLD_SIDE
+                if lines.get(OLD_SIDE) != lines.get(NEW_SIDE):
+                    pieces = path_of(key)[1:].split(b"/")
+                    matching = [pattern for pattern in patterns if pattern.matches(pieces)]
+                    if matching:
+                        used.update(matching)
+                        counts[_kind_of(lines)] += 1
+                        side = OLD_SIDE
                 if side in lines:
                     file.write(lines[side])
             if former.columns != latter.columns:
@@ -128,4 +115,5 @@ def keep_open(old: Copy, new: Copy, is_open: Callable[[bytes], bool]) -> Merged:
                 )
             file.write(latter.end)
             shutil.copyfileobj(latter.file, file, BLOCK)
-    return Merged(Copy(target, new.name, new.written), counts)
+    unused = [pattern for pattern in patterns if pattern not in used]
+    return Merged(Copy(target, new.name, new.written), counts, unused)
