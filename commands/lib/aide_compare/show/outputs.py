@@ -5,7 +5,6 @@ from __future__ import annotations
 from collections.abc import Callable, Iterable
 from typing import TYPE_CHECKING, NamedTuple
 
-from aide_compare.base.kinds import some_text
 from aide_compare.base.options import Option
 
 if TYPE_CHECKING:
@@ -35,12 +34,16 @@ def page(comparison: Comparison, judged: Judged | None) -> Iterable[bytes]:
     return page_of(comparison, judged)
 
 
-def row(name: str, what: str, make: Maker) -> OutputRow:
-    words = f"{what} to FILE, - for standard output"
-    return OutputRow(Option(name, words, "FILE", some_text, is_single=True), make)
-
-
-OUTPUTS = (
-    row("--json", "write the changes as JSON, one object a line,", json_lines),
-    row("--page", "write the changes as a page to look at", page),
+JSON = Option(
+    "--json",
+    "write the changes as JSON, one object a line, to FILE, - for standard output",
+    "FILE",
+    is_single=True,
 )
+PAGE = Option(
+    "--page",
+    "write the changes as a page to look at to FILE, - for standard output",
+    "FILE",
+    is_single=True,
+)
+OUTPUTS = (OutputRow(JSON, json_lines), OutputRow(PAGE, page))
