@@ -15,7 +15,6 @@ from aide_compare.base.paths import key_of
 # The proved program refuses a longer line.
 MAX_LINE = 1 << 20
 FIELDS = rb"[^ \t\n]+"
-FIRST_FIELD = rb"[ \t]*([^ \t\n]+)"
 PATH_COLUMN = b"name"
 ABSENT = b"0"  # The field of a value that an entry does not have.
 # Bits of the modes of entries.
@@ -51,7 +50,7 @@ class Layout:
     def __init__(self) -> None:
         self.columns: tuple[bytes, ...] = ()
         self.is_over = False
-        self._path = re.compile(FIRST_FIELD)
+        self._path: re.Pattern[bytes] | None = None  # What matches an entry with its path.
 
     def kind_of(self, line: bytes) -> Kind:
         """What the next line is. The lines of a database have to be asked about in their order."""
@@ -77,7 +76,5 @@ class Layout:
 
     def key_of(self, entry: bytes) -> bytes | None:
         """The key of the path of an entry; None if it has no such field, or no column is known."""
-        match = self._path.match(entry)
-        if match is None or not self.columns:
-            return None
-        return key_of(match[1])
+        match = self._path and self._path.match(entry)
+        return key_of(match[1]) if match else None
