@@ -131,7 +131,7 @@ class SharedChange:
         self.fields = fields
         self.hosts: int = fields["hosts"]
         self.names: Sequence[str] = fields["names"]
-        self.severity: str = fields.get("severity", "")
+        self.severity: str = fields["severity"]
         self.various: Sequence[str] = fields.get("old_various", ())
         self.per_host: Sequence[str] = fields.get("per_host", ())
 
