@@ -7,7 +7,7 @@ from aide_compare.base.escapes import guarded
 from aide_compare.base.words import counted
 from aide_compare.changes.judged import Judged
 from aide_compare.changes.table import RECORDED, Table
-from aide_compare.show.digest import MAX_LETTERS, shortened_path
+from aide_compare.show.digest import shortened_path
 
 MAX_NAME = 40
 MAX_HIGH = 3  # Of each package so many paths of severity high are named.
@@ -29,9 +29,7 @@ def high_line(table: Table, package: str, width: int) -> str:
     """The paths of a package's changes of severity high."""
     high = table.paths(f"{RECORDED} and level = 0 and package = ?", package)
     paths = [path for path, _ in high]
-    each = MAX_LETTERS
-    if width:
-        each = (width - len("    ") - 2 * len(paths)) // len(paths)
+    each = width and (width - len("    ")) // len(paths) - len(", ")
     return "    " + ", ".join(shortened_path(path, each) for path in paths)
 
 
