@@ -101,10 +101,13 @@ def words_of_option(option: Option, name: str) -> dict[str, Any]:
 
 def words_of_operand(operand: Operand) -> dict[str, Any]:
     """What argparse is told of an operand, a text that is not empty."""
-    words: dict[str, Any] = {"metavar": operand.metavar, "help": operand.help, "type": _operand}
-    if operand.nargs:
-        words.update(nargs=operand.nargs, default=None)
-    return words
+    return {
+        "metavar": operand.metavar,
+        "help": operand.help,
+        "type": _operand,
+        "nargs": operand.nargs,
+        "default": None,
+    }
 
 
 def end_of_options(words: Sequence[str]) -> int:
