@@ -142,8 +142,9 @@ def as_not_compared(directory: HostDirectory, state: State, why: str) -> State:
     if state.status and state.counts:
         text += f"; it differs: added {state.added}, removed {state.removed}"
         text += f", changed {state.changed}"
-    no_counts = state._replace(added=None, removed=None, changed=None, standings=None)
-    return no_counts._replace(status=Status.DEVICE, error=text)
+    return state._replace(
+        status=Status.DEVICE, error=text, added=None, removed=None, changed=None, standings=None
+    )
 
 
 def keep_comparison(directory: HostDirectory, request: HostsRequest) -> State:
