@@ -7,7 +7,6 @@ import os
 import stat
 import time
 from contextlib import suppress
-from typing import NamedTuple
 
 from aide_compare.base.directories import ANYBODY, LISTING, PIECE, Directory, closed_after, failure
 from aide_compare.base.directories import open_directory
@@ -24,15 +23,12 @@ SECONDS_FOR_LOCK = 60
 CHANGED = "another process has changed it meanwhile"
 
 
-class Identity(NamedTuple):
-    """Which file it is, whatever its names are."""
-
-    device: int
-    inode: int
+# Which file it is, whatever its names are: its device and its inode.
+Identity = tuple[int, int]
 
 
 def identity(status: os.stat_result) -> Identity:
-    return Identity(status.st_dev, status.st_ino)
+    return status.st_dev, status.st_ino
 
 
 def _user_for(directory: Directory) -> int | None:
