@@ -125,17 +125,14 @@ class ComparisonJob:
         self._put(comparison)
         return comparison
 
-    def _files(self) -> list[str]:
-        """The paths of the outputs that are files."""
-        return [path for path in self.options.paths if descriptor_of(path) is None]
-
     def _open_outputs(self, comparison: Comparison) -> None:
         """Opens the places of the outputs, as the user in whose directories they and the baseline
         are may write them. Of two failures the first one is kept, and both are told."""
         state_file = None
         try:
             if not self.options.user:
-                become_owner(*filter(None, (self.request.old, *self._files())))
+                files = [path for path in self.options.paths if descriptor_of(path) is None]
+                become_owner(self.request.old, *files)
             if self.options.state:
                 state_file = file_output(self.options.state, "the state file", ANYBODY_READS)
             rows = [*self.before, *output_rows(self.options)]
