@@ -110,7 +110,7 @@ def gains_writers(old: Side, new: Side) -> bool:
 
 
 def may_be_executable(rights: Rights) -> bool:
-    return (rights.is_file or not rights.type) and bool(rights.most & RUN_BITS)
+    return rights.type in ("File", "") and bool(rights.most & RUN_BITS)
 
 
 def either(test: Callable[[Rights], bool]) -> Callable[[Side, Side], bool]:

@@ -68,10 +68,6 @@ class Rights(NamedTuple):
     capabilities: bytes | None
 
     @property
-    def is_file(self) -> bool:
-        return self.type == "File"
-
-    @property
     def is_directory(self) -> bool:
         return self.type == "Directory"
 
