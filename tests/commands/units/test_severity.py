@@ -15,7 +15,7 @@ from tests.lib.scratch import read
 from aide_compare.base.words import SEVERITIES
 from aide_compare.changes import severity
 from aide_compare.changes.severity import RANKS, Severity, held_by
-from aide_compare.lines.rights import Rights, Side, owner_of
+from aide_compare.lines.rights import Rights, Side, owner_of_change
 
 TYPES = {0o10: "File", 0o4: "Directory", 0o12: "Link", 0o1: "FIFO"}
 TYPES.update({0o2: "Character device", 0o6: "Block device"})
@@ -262,7 +262,7 @@ class SeverityTest(ModuleTest):
     def test_owners(self) -> None:
         """Nobody but root makes a device, so it is named among root's changes."""
         for mode, wanted in ((FILE, ANNA), (0o20000, 0), (0o60660, 0)):
-            found = owner_of(None, entry(mode, uid=ANNA))
+            found = owner_of_change(None, entry(mode, uid=ANNA))
             self.expect(f"whose change {mode:o} is", found, wanted)
 
     def test_order(self) -> None:

@@ -10,7 +10,7 @@ from aide_compare.base.database import SET_ID
 from aide_compare.base.paths import SLASH
 from aide_compare.changes.severity import Held, has_same_rights, held_by
 from aide_compare.lines.change import Fields
-from aide_compare.lines.rights import ROOT, Rights, Side, owner_of, rights_of
+from aide_compare.lines.rights import ROOT, Rights, Side, owner_of_change, rights_of
 
 MAX_NUMBER = (1 << 63) - 1
 UNKNOWN = -1
@@ -67,7 +67,7 @@ def known_of(line: bytes) -> Known:
     """What is known by a line."""
     fields = json.loads(line)
     old, new = rights_of(fields)
-    owner = owner_of(old, new)
+    owner = owner_of_change(old, new)
     asked = ""
     if new is not None and may_be_content(old, new) and is_content(fields, new.is_link):
         asked = "target" if new.is_link else "content"

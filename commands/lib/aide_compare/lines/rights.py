@@ -212,7 +212,7 @@ def differing(fields: Object) -> Object:
     return {**fields, "old": old, "new": new}
 
 
-def owner_of(old: Side, new: Side) -> int | None:
+def owner_of_change(old: Side, new: Side) -> int | None:
     """Whose change it is: root's, if root's entry is among the two."""
     owners = [rights.owner for rights in (old, new) if rights]
     known = [owner for owner in owners if owner is not None]
