@@ -24,7 +24,7 @@ from aide_compare.changes.weighing import directory_of, group_of_owner, party_of
 from aide_compare.compare import outputs
 from aide_compare.lines.change import Fields
 from aide_compare.show.digest import MAIL, digest
-from aide_compare.show.page import Rows, values_in
+from aide_compare.show.page import PageRows, values_in
 
 
 def change(path: bytes, owner: int = 0, severity: str = "high") -> Values:
@@ -111,7 +111,7 @@ class OutputsTest(PlacesTest):
     @mock.patch("aide_compare.lines.reader.MANY", 1)
     def test_values(self) -> None:
         """The values of a frequent form are those of the line itself, however odd one is."""
-        rows = Rows()
+        rows = PageRows()
         usual = fields_of("/a", "changed", old={"Size": 0, "SHA256": "00"}, new={"MD5": "+/="})
         odd: list[Fields] = [{"MD5": text} for text in ("<b>", "\\", "\u202e", "%b", "", "x" * 200)]
         odd += [{"Size": number} for number in (1 << 53, 10**14, -1, "7")]

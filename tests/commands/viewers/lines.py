@@ -17,7 +17,7 @@ from aide_compare.compare.comparison import Lines
 from aide_compare.compare.work import failed_comparison
 from aide_compare.lines.reader import ENCODE, NOTHING_COUNTED
 from aide_compare.show.json_lines import added_lines
-from aide_compare.show.page import MAX_PAGE, Rows, page
+from aide_compare.show.page import MAX_PAGE, PageRows, page
 
 Fields = dict[str, Any]
 # A comparison that knows nothing beside its lines.
@@ -48,7 +48,7 @@ def order_of(fields: Fields) -> tuple[str, int]:
 @mock.patch("aide_compare.lines.reader.MANY", 1)  # Few lines are read as many are.
 def page_over(objects: list[Fields], limit: int = MAX_PAGE) -> bytes:
     """The page of the objects of lines, with the standings that they say."""
-    rows = Rows()
+    rows = PageRows()
     for fields in sorted(changes_of(objects), key=order_of):
         marks = (fields.get(name, "") for name in Marks._fields)
         rows.add(ENCODE(fields).encode() + b"\n", Marks(*marks))

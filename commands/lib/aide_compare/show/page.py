@@ -179,7 +179,7 @@ def row_of(change: Change, marks: Fields) -> list[Fields]:
     return [head, both_values(change)]
 
 
-class Rows:
+class PageRows:
     """The rows of a page, those that matter most first: these have room first, and values go before
     heads."""
 
@@ -256,7 +256,7 @@ def lines_in_order(judged: Judged) -> Iterator[tuple[bytes, Marks]]:
                 yield line, marks
 
 
-def heading_of(comparison: Comparison, rows: Rows, title: str) -> Fields:
+def heading_of(comparison: Comparison, rows: PageRows, title: str) -> Fields:
     """What stands above the changes of a comparison."""
     end = comparison.known_lines().end
     counts = comparison.standings or Counts()
@@ -288,7 +288,7 @@ def page_of(
     comparison: Comparison, judged: Judged | None, limit: int = MAX_PAGE
 ) -> Iterator[bytes]:
     """The page of a comparison."""
-    rows = Rows()
+    rows = PageRows()
     for line, marks in lines_in_order(judged) if judged else marked_lines(comparison.reader()):
         rows.add(line, marks)
     title = shown(f"File changes on {os.uname().nodename}")
