@@ -17,7 +17,7 @@ if TYPE_CHECKING:
 # Seconds and bytes.
 UNITS = {"": 1, "s": 1, "m": 60, "h": 3600, "d": 86400, "k": 1 << 10, "M": 1 << 20, "G": 1 << 30}
 MAX_SECONDS = 30 * 86400
-MAX_SIZE = 1 << 62
+MAX_BYTES = 1 << 62
 
 Value = TypeVar("Value")
 
@@ -69,7 +69,7 @@ def pattern(text: str) -> Pattern:
 
 
 def _bounded_size(text: str) -> int:
-    return min(number_in_units(text), MAX_SIZE)
+    return min(number_in_units(text), MAX_BYTES)
 
 
 some_text = matching("(?s).+", "a value that is not empty", str)

@@ -14,7 +14,7 @@ from aide_compare.base.processes import NOT_STARTED, Taker, run
 # Its descriptors, beside the standard ones.
 DESCRIPTORS = {"old": 3, "new": 4, "trusted_old": 6, "trusted_new": 7}
 CONFIGURATION = 5
-DATABASES = "database_in=file:/proc/self/fd/3\ndatabase_new=file:/proc/self/fd/4"
+DATABASE_LINES = b"database_in=file:/proc/self/fd/3\ndatabase_new=file:/proc/self/fd/4"
 MAX_ERRORS = 1 << 20
 END_BYTES = 1 << 12  # The last line contains only digests, columns and counts.
 # The proved programs that write reports, and lines of JSON or what a configuration says; and the

@@ -11,8 +11,8 @@ from aide_compare.base.ending import DeviceFault, Fault
 from aide_compare.base.escapes import shown
 from aide_compare.base.files import in_memory
 from aide_compare.base.processes import Taker
-from aide_compare.base.program import CONFIGURATION, DATABASES, DESCRIPTORS, LINES, Answer, Drain
-from aide_compare.base.program import find_installed, run_program
+from aide_compare.base.program import CONFIGURATION, DATABASE_LINES, DESCRIPTORS, LINES
+from aide_compare.base.program import Answer, Drain, find_installed, run_program
 from aide_compare.base.words import TRUSTED_SIDES
 from aide_compare.compare.configuration import ConfigurationTexts
 from aide_compare.lines.rights import RIGHTS
@@ -62,7 +62,7 @@ def ask_for_changes(
     out."""
     places = {DESCRIPTORS[side]: descriptor for side, descriptor in databases.items()}
     words = [b"-E"]
-    last = DATABASES.encode()
+    last = DATABASE_LINES
     if forced:
         line = FORCE + "+".join(forced).encode() + b"\n"
         # Those after `report_url=stdout` do not count, and of the others the last one does.
