@@ -10,9 +10,8 @@ from tools.source.definitions import Definition
 
 Item = TypeVar("Item")
 
-# Columns of definitions, which are those of the crates, and of prose.
+# Columns of definitions, which are those of the crates.
 WIDTH = 138
-PROSE = 80
 # Lines of a definition that are no longer than this share a line.
 SHORT = 48
 
