@@ -44,6 +44,6 @@ def databases_there() -> list[str]:
 
 def named_by(text: bytes) -> list[str]:
     """The databases that a configuration names, the old one first."""
-    settings = settings_of(ConfigurationTexts(text, b"")) or {}
+    settings = settings_of(ConfigurationTexts(text, b""))
     paths = [settings.get(name) for name in ("database_in", "database_new")]
     return [os.fsdecode(str(path).encode()) for path in paths if path is not None]

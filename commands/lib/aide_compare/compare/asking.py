@@ -86,18 +86,18 @@ def ask_for_lines(
     program = find_installed(LINES)
     forced = set(RIGHTS)
     if any(FORCE_NAME in text for text in texts):
-        forced.update((settings_of(texts) or {}).get(FORCE_NAME.decode(), ()))
+        forced.update(settings_of(texts).get(FORCE_NAME.decode(), ()))
     return ask_for_changes(program, texts, databases, take, sorted(forced), without)
 
 
-def settings_of(texts: ConfigurationTexts) -> Settings | None:
-    """What the program says of texts, without any database; None if it refuses them."""
+def settings_of(texts: ConfigurationTexts) -> Settings:
+    """What the program says of texts, without any database; nothing if it refuses them."""
     written = bytearray()
     program = find_installed(LINES)
     take = Drain(MAX_SETTINGS, written.extend).take
     answer = _ask(program, [b"-D", b"--after=" + texts.after], texts, {}, take)
     if answer.status > 7:
-        return None
+        return {}
     with suppress(ValueError, KeyError, TypeError):
         settings = json.loads(written)
         if settings["format"] == SETTINGS_FORMAT:

@@ -133,10 +133,10 @@ def failed_comparison(error: BaseException) -> Comparison:
     return comparison
 
 
-def ignored_notes(settings: Settings | None) -> Iterator[str]:
+def ignored_notes(settings: Settings) -> Iterator[str]:
     """How many attributes the options of a person leave out of a comparison: it may be silent only
     for that."""
-    for option, names in (settings or {}).items():
+    for option, names in settings.items():
         if option.startswith("report_ignore_") and names:
             yield f"{option} leaves {counted(len(names), 'attribute')} out of the comparison"
 
