@@ -33,10 +33,10 @@ MAX_PATH = 4096  # PATH_MAX of Linux: no path of a file is longer, so no row mea
 PROGRAM = Rights("File", 0o755, ROOT, ROOT, None, None, None, None)
 
 
-def set_id_bits(rights: Side, mode: int) -> int:
+def set_id_bits(rights: Rights, mode: int) -> int:
     """The set-ID bits of a mode. On a directory one of them only says whose group new files
     have."""
-    if rights is None or rights.is_directory:
+    if rights.is_directory:
         return 0
     return mode & SET_ID
 
@@ -59,8 +59,8 @@ def gains_set_id(old: Side, new: Side) -> bool:
     """Whether a set-ID bit may be there now that may not have been there before."""
     if new is None:
         return False
-    before = 0 if old is None else old.least
-    return set_id_bits(new, new.most) & ~set_id_bits(old, before) != 0
+    before = 0 if old is None else set_id_bits(old, old.least)
+    return set_id_bits(new, new.most) & ~before != 0
 
 
 def gains_capabilities(old: Side, new: Side) -> bool:
