@@ -95,12 +95,6 @@ def is_text_of(entry: Mapping[bytes, bytes], text: bytes) -> bool:
     return True
 
 
-def lines_of_file(text: bytes, path: str) -> Iterator[Line]:
-    name = shown(path, MAX_SHOWN)
-    for number, line in enumerate(text.split(b"\n"), 1):
-        yield Line(line, f"{name}, line {number}")
-
-
 def read_exclusions(files: Sequence[str], patterns: Sequence[str]) -> Exclusions:
     """The lines of --exclude-from FILE and of --exclude LINE, in the order of the command line."""
     texts = {}
@@ -110,7 +104,8 @@ def read_exclusions(files: Sequence[str], patterns: Sequence[str]) -> Exclusions
         # A database has no digest of a link, and may have known a file where a link is now.
         for name in (abspath(path), realpath(path)):
             texts[os.fsencode(name)] = text
-        lines += lines_of_file(text, path)
+        for number, line in enumerate(text.split(b"\n"), 1):
+            lines.append(Line(line, f"{shown(path, MAX_SHOWN)}, line {number}"))
     for pattern in patterns:
         if "\n" in pattern:
             raise Fault(Status.USAGE, f"--exclude has more than one line: {shown(pattern, 200)}")
