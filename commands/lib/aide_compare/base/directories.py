@@ -56,13 +56,10 @@ class Directory:
 
     def __init__(self) -> None:
         self.fd = -1
-        self.others: frozenset[int] = frozenset()
-        self.sticky = False
-        self._passed_on: frozenset[int] = frozenset()
         self.enter_root()
 
     def enter_root(self) -> None:
-        self._passed_on = frozenset()
+        self._passed_on: frozenset[int] = frozenset()
         self.enter(os.open("/", PIECE | os.O_DIRECTORY))
 
     def enter(self, descriptor: int) -> None:
