@@ -43,13 +43,10 @@ class EntryReader:
         self.end = b""
         self.file = open(reopened(copy.fd, os.O_RDONLY), "rb", BLOCK)
 
-    @property
-    def columns(self) -> tuple[bytes, ...]:
-        return self.layout.columns
-
     def fields(self, line: bytes) -> dict[str, bytes]:
         """The fields of an entry by the names of their columns."""
-        return {str(name, "latin-1"): field for name, field in zip(self.columns, fields_in(line))}
+        columns = self.layout.columns
+        return {str(name, "latin-1"): field for name, field in zip(columns, fields_in(line))}
 
     def entries(self, side: int) -> Iterator[SidedEntry]:
         for line in self.file:
@@ -106,7 +103,7 @@ def keep_open(old: Copy, new: Copy, patterns: Sequence[Pattern]) -> Merged:
                         side = OLD_SIDE
                 if side in lines:
                     file.write(lines[side])
-            if former.columns != latter.columns:
+            if former.layout.columns != latter.layout.columns:
                 raise Fault(
                     Status.DATABASE,
                     f"refused: {shown(new.name)} has other columns (@@db_spec) than the baseline,"
