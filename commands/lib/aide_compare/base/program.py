@@ -20,7 +20,7 @@ END_BYTES = 1 << 12  # The last line contains only digests, columns and counts.
 # The proved programs that write reports, and lines of JSON or what a configuration says; and the
 # command with all subcommands.
 PROGRAM = "libexec/aide-compare/aide"
-LINES = "libexec/aide-compare/aide_lines"
+LINES_PROGRAM = "libexec/aide-compare/aide_lines"
 FRONT = "bin/aide-compare"
 # A program may be there a second time, built for newer processors: those with x86-64-v3, by the
 # names of /proc/cpuinfo.

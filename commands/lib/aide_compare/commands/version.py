@@ -12,7 +12,13 @@ from aide_compare.base.escapes import shown
 from aide_compare.base.files import read_file
 from aide_compare.base.options import Asked
 from aide_compare.base.parser import Help, read
-from aide_compare.base.program import LINES, NEWER, PROGRAM, find_installed, installed_builds
+from aide_compare.base.program import (
+    LINES_PROGRAM,
+    NEWER,
+    PROGRAM,
+    find_installed,
+    installed_builds,
+)
 
 MAX_PROGRAM = 1 << 28
 MAX_RECORD = 1 << 16
@@ -76,6 +82,6 @@ def main(arguments: Sequence[str]) -> int:
     tell(
         f"aide-compare {VERSION}",
         *program_lines("program", PROGRAM),
-        *program_lines("program of lines", LINES),
+        *program_lines("program of lines", LINES_PROGRAM),
     )
     return Status.OK

@@ -11,7 +11,7 @@ from aide_compare.base.ending import DeviceFault, Fault
 from aide_compare.base.escapes import shown
 from aide_compare.base.files import in_memory
 from aide_compare.base.processes import Taker
-from aide_compare.base.program import CONFIGURATION, DATABASE_LINES, DESCRIPTORS, LINES
+from aide_compare.base.program import CONFIGURATION, DATABASE_LINES, DESCRIPTORS, LINES_PROGRAM
 from aide_compare.base.program import Answer, Drain, find_installed, run_program
 from aide_compare.base.words import TRUSTED_SIDES
 from aide_compare.compare.configuration import ConfigurationTexts
@@ -83,7 +83,7 @@ def ask_for_lines(
 ) -> Answer:
     """Asks for the lines of the changes. Each has the rights of both sides, and the attributes that
     the texts force themselves. `without`: the list of what is left out."""
-    program = find_installed(LINES)
+    program = find_installed(LINES_PROGRAM)
     forced = set(RIGHTS)
     if any(FORCE_NAME in text for text in texts):
         forced.update(settings_of(texts).get(FORCE_NAME.decode(), ()))
@@ -93,7 +93,7 @@ def ask_for_lines(
 def settings_of(texts: ConfigurationTexts) -> Settings:
     """What the program says of texts, without any database; nothing if it refuses them."""
     written = bytearray()
-    program = find_installed(LINES)
+    program = find_installed(LINES_PROGRAM)
     take = Drain(MAX_SETTINGS, written.extend).take
     answer = _ask(program, [b"-D", b"--after=" + texts.after], texts, {}, take)
     if answer.status > 7:

@@ -7,7 +7,7 @@ from aide_compare.compare.comparison import ComparisonInput
 from aide_compare.compare.unpack import Copy
 from aide_compare.compare.work import compare
 
-MAX_LINES = 1 << 20
+MAX_BYTES = 1 << 20  # Of the lines: what differs does not matter here.
 MAX_ERROR_LINE = 1000
 
 
@@ -15,7 +15,7 @@ def refuse_unsound(copy: Copy, former: Copy | None = None) -> None:
     """A Fault if the program does not read an unpacked database to its end, or the former one
     beside it. One database is read as both."""
     copies = {"old": former or copy, "new": copy}
-    comparison = compare(ComparisonInput("", "", copies=copies, max_report=MAX_LINES))
+    comparison = compare(ComparisonInput("", "", copies=copies, max_report=MAX_BYTES))
     if comparison.fault:
         raise comparison.fault
     if comparison.has_failed:

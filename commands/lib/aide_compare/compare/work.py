@@ -11,7 +11,7 @@ from functools import partial
 from aide_compare.base.ending import DeviceFault, Fault, OSErrorAsFault, Status, write_all
 from aide_compare.base.escapes import shown
 from aide_compare.base.files import nameless, private_place
-from aide_compare.base.program import LINES, Answer, Drain, Tail, find_installed
+from aide_compare.base.program import LINES_PROGRAM, Answer, Drain, Tail, find_installed
 from aide_compare.base.words import SIDES, TRUSTED_SIDES, age_in_words, counted, words_of_side
 from aide_compare.compare.asking import Settings, ask_for_lines, odd_answer, settings_of
 from aide_compare.compare.comparison import Comparison, Lines, Refusal, ComparisonInput
@@ -104,7 +104,7 @@ def read_lines(comparison: Comparison) -> Lines:
         if end.status != answer.status:
             raise ValueError
     except ODD:
-        raise odd_answer(find_installed(LINES), answer) from None
+        raise odd_answer(find_installed(LINES_PROGRAM), answer) from None
     comparison.status = answer.status
     comparison.skipped = names
     # The program has read what it has compared, so it knows the digests of whole databases.
