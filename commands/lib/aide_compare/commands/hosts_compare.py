@@ -64,12 +64,13 @@ def compare_all(request: HostsRequest, hosts: Sequence[str]) -> int:
     else:
         all_results = results(hosts, request)
     found = []
+    worst = 0
     for result in all_results:
         found.append((result.status, result.has_changes and not result.status))
+        worst = max(worst, result.status)
         if result.status or not request.is_quiet:
             tell(result.line())
-    worst = max((status for status, _ in found), default=0)
-    if not request.is_quiet or worst:
+    if worst or not request.is_quiet:
         counts = HostCounts.of(found)
         tell(f"{counts.headline()}, {counts.others()}")
     return worst
