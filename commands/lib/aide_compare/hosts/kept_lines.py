@@ -13,12 +13,11 @@ from collections import Counter
 from collections.abc import Iterator
 
 from aide_compare.base.ending import DeviceFault, write_blocks
-from aide_compare.base.words import KINDS
 from aide_compare.changes.judged import Judged
 from aide_compare.changes.table import ORDER
 from aide_compare.compare.comparison import Comparison
 from aide_compare.lines.change import Counts
-from aide_compare.lines.reader import COUNTED, Forms, Refused, reader_over
+from aide_compare.lines.reader import COUNTS_OF_END, Forms, Refused, reader_over
 from aide_compare.show.digest import rooms_of
 from aide_compare.show.json_lines import line_of
 
@@ -54,8 +53,7 @@ def kept_lines(judged: Judged, limit: int) -> Iterator[bytes]:
 def end_line(judged: Judged, counted: Counter[str]) -> bytes:
     """The last line, with the counts of the changes that are kept in place of those of all."""
     reader = judged.reader
-    names = {**dict(zip(KINDS, KINDS)), **COUNTED, "": "others"}
-    kept = reader.counts._replace(**{name: counted[key] for key, name in names.items()})
+    kept = reader.counts._replace(**{name: counted[key] for key, name in COUNTS_OF_END.items()})
     fields = {**reader.end, **kept._asdict(), "status": kept.status}
     return line_of({**fields, "standings": judged.counts._asdict()})
 

@@ -41,11 +41,13 @@ MAX_FORMS = 1 << 9
 MANY = 100
 MAX_LINE = 1 << 11
 NO_MATCH = re.compile(b"(?!)").fullmatch
-# The counts of the end by the accounts of lines.
-COUNTED = {
+# The counts of the end by the kinds and the accounts of lines.
+COUNTS_OF_END = {
+    **dict(zip(KINDS, KINDS)),
     Standing.SAME.value: "same_as_old",
     Standing.TRUSTED.value: "same_as_trusted",
     Standing.LEFT_OUT.value: LEFT_OUT,
+    "": "others",
 }
 
 
@@ -240,7 +242,7 @@ class Reader:
             counted.update(dict.fromkeys(words, lines))
         try:
             counts = end_of(fields)
-            for key, name in (*zip(KINDS, KINDS), *COUNTED.items()):
+            for key, name in COUNTS_OF_END.items():
                 if counted[key] != getattr(counts, name):
                     raise ValueError
         except ODD:
