@@ -47,7 +47,7 @@ class Row(NamedTuple):
 
 def values_in(change: Change, others: Collection[str] = ()) -> Iterator[Row]:
     """Each attribute of a change, and those that it has too, with both values for people, None for
-    one that is not there. Of the digests the strongest says as much as all, and the type is said
+    one that is not there. Of the digests one says as much as all, and the type is said
     already unless it changed."""
     texts = texts_of(change)
     labels = {*others, *change.old, *change.new}

@@ -1,5 +1,5 @@
 // What a reader sees of values, of which every text is escaped already. `labels` are the attributes in their order, `names` their
-// words, the same for all digests, and `strength` the digests, the strongest first.
+// words, the same for all digests, and `strength` the digests, the one to see first.
 const TIMES = ['Atime', 'Mtime', 'Ctime'], SIDES = ['old', 'new'], VARIOUS = 'various', RIGHTS = ['Perm', 'UID', 'GID'];
 
 function timeOf(seconds) {
@@ -33,7 +33,7 @@ function tableOf(entry, rows) {
     make('tr', {}, titleOf(label), ...SIDES.map((side) => cellOf(entry, side, label)))));
 }
 
-// The values of an entry, null without any. Of its digests the strongest one is seen; the others open on demand.
+// The values of an entry, null without any. Of its digests the first one is seen; the others open on demand.
 function valuesOf(entry) {
   if (!entry.values) return null;
   const others = labels.filter((label) => entry.labels.includes(label) && !strength.includes(label));
