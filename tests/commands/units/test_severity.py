@@ -59,7 +59,7 @@ UNKNOWN = entry(FILE)._replace(permissions=None)
 OWNERLESS = entry(DIRECTORY, uid=None)
 # A change of rights wherever it is: the entry before, the entry now, and the level below /srv.
 RIGHTS: list[tuple[str, Side, Side, str]] = [
-    ("a new file", None, entry(FILE), "medium"),
+    ("a new file", None, entry(FILE, acl=acl_field(b"")), "medium"),
     ("a file that went", entry(FILE), None, "medium"),
     ("a set-user-ID file that came", None, entry(0o104755), "high"),
     ("a set-group-ID file that came", None, entry(0o102755), "high"),
@@ -73,7 +73,7 @@ RIGHTS: list[tuple[str, Side, Side, str]] = [
     ("a file that came with capabilities", None, entry(FILE, capabilities=SETUID), "high"),
     ("the same capabilities", CAPABLE, CAPABLE, "high"),
     ("capabilities that went", CAPABLE, entry(PROGRAM), "high"),
-    ("capabilities as an attribute", entry(PROGRAM), entry(PROGRAM, xattrs=CAPABILITY), "high"),
+    ("capabilities as an attribute", entry(FILE), entry(FILE, xattrs=CAPABILITY), "high"),
     ("another attribute", entry(FILE), entry(FILE, xattrs=b"1,user.a,AAAA"), "medium"),
     ("a link to a file with capabilities", None, entry(0o120777, capabilities=SETUID), "medium"),
     ("a list for anna", entry(FILE), LISTS_ANNA, "high"),
@@ -91,7 +91,7 @@ RIGHTS: list[tuple[str, Side, Side, str]] = [
     ("a directory that all can write", entry(DIRECTORY), entry(0o40777), "high"),
     ("a sticky directory now", entry(DIRECTORY), entry(0o41777), "high"),
     ("a sticky directory that came", None, entry(0o41777), "medium"),
-    ("a link that came", None, entry(0o120777), "medium"),
+    ("a link with a list", None, entry(0o120777, acl=b"odd"), "medium"),
     ("root's file given away", entry(FILE), OF_ANNA, "high"),
     ("a file given to root", OF_ANNA, entry(FILE), "medium"),
     ("root's file for a group", entry(FILE), entry(0o100664, gid=ANNA), "high"),
