@@ -258,11 +258,10 @@ class SetupTest(CommandTest):
         self.write(DAILY + "/mail/1.mail", "")
         self.write(DEFAULTS, "--max-age=x\n")
         waits = (b"missing: 1 mail that could not be sent yet: ", b"missing: the owner of ")
-        self.set_up("a mail of root's", ("--check",), 18, *waits, b"/defaults, line 1: ")
-        os.remove(self.path(DAILY + "/mail/1.mail"))
+        self.set_up("a mail of root's", ("--check",), 18, *waits)
         os.remove(self.path("stubs/sendmail"))
         environment = {"PATH": self.path("stubs") + ":/usr/bin:/bin"}
-        missing = b"missing: cannot find sendmail"
+        missing = [b"missing: cannot find sendmail", b"/defaults, line 1: "]
         self.answered(18, missing, b"", TOOL, "--check", environment=environment)
 
     def test_killed(self) -> None:

@@ -24,6 +24,9 @@ def troubles(queue: str) -> Iterator[str]:
             yield f"the owner of {shown(queue)}: that of the directory above"
     try:
         find_mailer()
+    except Fault as fault:
+        yield fault.text
+    try:
         defaults_for(MAY_BE_DEFAULTS.values(), ())
     except Fault as fault:
         yield fault.text
