@@ -190,9 +190,10 @@ class SetupTest(CommandTest):
         self.set_up("setup without systemd", ("--no-mail",), 0, b"cron.daily")
         self.assertFalse(os.path.lexists(self.path("root/etc/systemd")))
         self.write("root/etc/cron.daily/dailyaidecheck", "", 0o644)
-        last = max(os.listdir(self.path("root/etc/cron.daily")))
-        mode = os.stat(self.path(f"root/etc/cron.daily/{last}")).st_mode
-        self.assertEqual(stat.S_IMODE(mode), 0o755, "a job that cron runs, after AIDE's own")
+        last = "root/etc/cron.daily/" + max(os.listdir(self.path("root/etc/cron.daily")))
+        self.assertEqual(os.stat(self.path(last)).st_mode, 0o100755, "a job, after AIDE's own")
+        self.write(last, "[ -x /nowhere/tool ] || exit 0\n", 0o755)
+        self.answered(18, b"does nothing without /nowhere/tool: remove it\n", b"", TOOL, "--check")
         self.write("root/run/systemd/system/keep", "")
         said = b"compares too, and with systemd the timer does: remove it\n"
         self.expect("cron's job is named, and only once", self.call(TOOL), 18, b"", said)

@@ -52,6 +52,7 @@ named; 18 a step failed, or --check found something missing.""",
 TIMER = "aide-compare.timer"
 EXIM = "Exim puts it into /var/mail/mail if /etc/aliases has no line for root, such as root: YOU"
 COPIES = r"(?m)^[^#\n]*\bCOPYNEWDB=\W?(?:yes|ifn)"
+PROGRAM_OF_JOB = r"(?m)^\[ -x (\S+) \]"
 DATABASE_STARTS = (b"\x1f\x8b", b"@@begin_db", b"#")
 SECONDS_OF_INIT = 6 * 3600
 # What aide-compare archive reads. What a newer package replaces goes again.
@@ -161,10 +162,14 @@ class Machine:
         )
 
     def other_jobs(self) -> Iterator[str]:
-        """Yields what only an administrator can mend. With two jobs each mail would come twice. If
-        AIDE's own makes what it wrote the baseline, there would never be a difference."""
+        """Yields what only an administrator can mend. With two jobs each mail would come twice. One
+        that an installation elsewhere has left ends without a word. If AIDE's own makes what it
+        wrote the baseline, there would never be a difference."""
         if self.has_timer and os.path.lexists(PATHS.cron_job):
             yield f"{PATHS.cron_job} compares too, and with systemd the timer does: remove it"
+        elif program := re.search(PROGRAM_OF_JOB, text_there(PATHS.cron_job)):
+            if not os.path.lexists(program[1]):
+                yield f"{PATHS.cron_job} does nothing without {shown(program[1])}: remove it"
         if re.search(COPIES, text_there(PATHS.aides_job)):
             yield f"{PATHS.aides_job} makes new databases the baseline: write COPYNEWDB=no"
 
