@@ -85,7 +85,7 @@ class TextsTest(MailTest):
             answer = call(self, "--exclude-from", "list", "list.db", "same.db")
             self.expect("no difference beside a list", answer, 0)
             message = sent(self)
-            title = SUBJECT + "the list of what is left out was changed" if is_said else None
+            title = SUBJECT + "the list or the defaults were changed" if is_said else None
             self.assertEqual((subject(message), path in body(message)), (title, is_said))
 
     def test_test(self) -> None:

@@ -266,19 +266,21 @@ class WithoutTest(CommandTest):
         text = b"/var/log/**\n"
         path = os.fsencode(self.write("list", text))
         os.symlink("list", self.path("link"))
-        said = b", which decides what is left out, has changed since the baseline was made"
         rows = [(b"/elsewhere", "sha256", b"0", False), (path, "sha256", b"0", False)]
         for name in ("sha256", "sha512"):
             for other in (b"", b"/etc/**\n"):
                 digest = base64.b64encode(hashlib.new(name, text + other).digest())
                 rows.append((path, name, digest, bool(other)))
-        rows.append((os.fsencode(self.path("link")), *rows[-1][1:]))
+        for file in (self.path("link"), self.write("etc/defaults", "--databases 1.db 2.db\n")):
+            rows.append((os.fsencode(file), *rows[-1][1:]))
         for listed, name, digest, is_said in rows:
-            for database in ("list.db", "list-new.db"):
+            for database in ("1.db", "2.db"):
                 self.write(database, list_database(listed, name.encode(), digest))
             ways = [["link"], ["list"], [os.fsdecode(path), "--exclude", "/etc/**"]]
             for words in ways if is_said and name == "sha512" else ways[:1]:
-                given = ("--exclude-from", *words, "list.db", "list-new.db")
-                answer = self.call("aide-compare", *given)
-                is_due = is_said and (listed == path or "link" in words)
-                self.assertEqual((answer.status, said in answer.errors), (0, is_due), answer)
+                answer = self.call("aide-compare", "--exclude-from", *words, "1.db", "2.db")
+                is_due = is_said and (not listed.endswith(b"link") or "link" in words)
+                was_said = b", which decides what is silent, has changed since" in answer.errors
+                self.assertEqual((answer.status, was_said), (0, is_due), answer)
+        answer = self.call("aide-compare", "2.db", "1.db")
+        self.assertNotIn(b"has changed", answer.errors, "a pair that the defaults do not name")

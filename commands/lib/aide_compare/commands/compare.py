@@ -248,7 +248,8 @@ class Printer:
         """What is not in a report: it names only the descriptors of the databases."""
         text = told_of(comparison, self.request.is_quiet, self.request.is_verbose)
         if self.is_printed and comparison.differs:
-            if self.form == REPORT and comparison.request.exclusions:
+            exclusions = comparison.request.exclusions
+            if self.form == REPORT and exclusions and exclusions.lines:
                 text += f"aide-compare: {NO_LIST}\n"
             for side, copy in comparison.copies.items():
                 line = f"{words_of_side(side)} database: {shown(copy.name)}, "

@@ -166,6 +166,8 @@ def work_request(request: CompareRequest) -> ComparisonInput:
         after=request.after,
         max_size=request.max_size,
         max_age=request.max_age,
-        exclusions=exclusions_of(request.exclude_from, request.exclude, not request.no_defaults),
+        exclusions=exclusions_of(
+            request.exclude_from, request.exclude, not request.no_defaults, request.databases
+        ),
         trusted=request.trusted,
     )

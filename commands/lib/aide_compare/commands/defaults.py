@@ -64,16 +64,24 @@ def comparison_defaults(
 
 
 def exclusions_of(
-    paths: Sequence[str], patterns: Sequence[str], reads_defaults: bool
+    paths: Sequence[str],
+    patterns: Sequence[str],
+    reads_defaults: bool,
+    databases: Sequence[str] = (),
 ) -> Exclusions | None:
     """The list of what is left out: the files of the options, or else that of the administrator,
-    and the patterns."""
+    and the patterns. The defaults are looked up with it if they name these databases."""
+    defaults = None
+    if reads_defaults and databases:
+        named = defaults_for((DATABASES,), ()).get(DATABASES.attribute)
+        if named and all(map(is_same, databases, named)):
+            defaults = administrators_file("defaults")
     if not paths and reads_defaults:
         usual = administrators_file("without")
         if usual:
             paths = [usual]
-    if not paths and not patterns:
+    if not paths and not patterns and not defaults:
         return None
     from aide_compare.compare.exclusions import read_exclusions
 
-    return read_exclusions(paths, patterns)
+    return read_exclusions(paths, patterns, defaults)

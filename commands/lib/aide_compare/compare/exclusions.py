@@ -1,8 +1,8 @@
 """The list of what is left out: the lines of files and of options, as one text. The proved program
 reads it, and decides alone what a line names, and what stays whatever a line says.
 
-Each file is looked up in the old database too: one that was changed since the baseline was made is
-reported.
+Each file is looked up in the old database too, and so are the defaults: one that was changed since
+the baseline was made is reported.
 """
 from __future__ import annotations
 
@@ -29,7 +29,7 @@ WHAT = "the file of --exclude-from"
 COLUMNS = b"@@db_spec "
 # The columns of digests by which a file is looked up in a database.
 DIGESTS = (b"sha512", b"sha256", b"sha3_512", b"sha3_256")
-HAS_CHANGED = "which decides what is left out, has changed since the baseline was made"
+HAS_CHANGED = "which decides what is silent, has changed since the baseline was made"
 NO_TEXT = "[\0\udc80-\udcff]"  # A zero byte, or one that is not UTF-8.
 FAULT = re.compile(rb"aide: list:([0-9]+): ([^\n]*)\n")
 
@@ -49,7 +49,7 @@ class Exclusions(NamedTuple):
     """The list."""
 
     lines: Sequence[Line]
-    files: Mapping[bytes, bytes]  # The text of each file that lines came from, by its paths.
+    files: Mapping[bytes, bytes]  # The text of each file that is looked up, by its paths.
 
     @property
     def text(self) -> bytes:
@@ -95,22 +95,28 @@ def is_text_of(entry: Mapping[bytes, bytes], text: bytes) -> bool:
     return True
 
 
-def read_exclusions(files: Sequence[str], patterns: Sequence[str]) -> Exclusions:
-    """The lines of --exclude-from FILE and of --exclude LINE, in the order of the command line."""
-    texts = {}
+def read_exclusions(
+    files: Sequence[str], patterns: Sequence[str], defaults: str | None
+) -> Exclusions:
+    """The lines of --exclude-from FILE and of --exclude LINE, in the order of the command line.
+    `defaults` is the file of the defaults, which may have such options and a trusted pair."""
+    texts = {path: trusted_text(path, WHAT) for path in files}
     lines: list[Line] = []
-    for path in files:
-        text = trusted_text(path, WHAT)
-        # A database has no digest of a link, and may have known a file where a link is now.
-        for name in (abspath(path), realpath(path)):
-            texts[os.fsencode(name)] = text
+    for path, text in texts.items():
         for number, line in enumerate(text.split(b"\n"), 1):
             lines.append(Line(line, f"{shown(path, MAX_SHOWN)}, line {number}"))
     for pattern in patterns:
         if "\n" in pattern:
             raise Fault(Status.USAGE, f"--exclude has more than one line: {shown(pattern, 200)}")
         lines.append(Line(os.fsencode(pattern), "--exclude"))
-    exclusions = Exclusions(lines, texts)
+    if defaults:
+        texts[defaults] = trusted_text(defaults, "the defaults")
+    names = {}
+    for path, text in texts.items():
+        # A database has no digest of a link, and may have known a file where a link is now.
+        for name in (abspath(path), realpath(path)):
+            names[os.fsencode(name)] = text
+    exclusions = Exclusions(lines, names)
     refuse_other_texts(exclusions)
     return exclusions
 
