@@ -1,5 +1,5 @@
 """What the program's error lines mean: which file and line, and the cause if it can be seen; and
-which columns it skipped."""
+notes on columns that were skipped and on databases that are equal, or in another order."""
 from __future__ import annotations
 
 import os
