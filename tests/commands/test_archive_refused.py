@@ -13,11 +13,11 @@ from tests.commands.signed_archive import TWO, ArchiveCase, Built
 class ArchiveRefusedTest(ArchiveCase):
     def test_limits(self) -> None:
         """An index may be large. gpgv that prints without end, or never ends, is ended."""
-        self.place.built[0].fields += 20000 * f"\n\nDescription: \U0001f511 {1000 * 'x'}"
+        bare = "Package: bare\nVersion: 1\nArchitecture: all\n"  # Nobody wants its other fields.
+        self.place.built[0].fields += 20000 * f"\n\n{bare}Description: \U0001f511 {1000 * 'x'}"
         self.place.sign()
         self.set_names("commands.archive", MAX_MEMORY=120 << 20)  # It is decoded in parts.
         self.applied()
-        old = self.place.old.database()
         for number, words in (1, ("yes",)), (3, ("sh", "-c", "yes >&3")):
             self.set_names("changes.signed", GPGV=words, MAX_RELEASE=1 << 20)
             self.not_made(b"gpgv prints more than 1048576 bytes")
@@ -25,7 +25,7 @@ class ArchiveRefusedTest(ArchiveCase):
         self.set_names("commands.archive", MAX_SECONDS=2)
         self.write("made.db", b"of another night\n")
         self.not_made(b"it took more than 2 seconds", 18, "--output=made.db")
-        self.assertEqual(self.read("made.db"), old)
+        self.assertEqual(self.read("made.db"), self.place.old.database())
 
     def test_unsigned(self) -> None:
         """What no trusted key has signed is refused; nothing is written then."""

@@ -41,6 +41,7 @@ INDEX = re.compile(r"^ ([0-9a-f]{64}) +(\d+) ([\w.+/-]*/binary-[\w-]+/Packages)(
 Unpack = Callable[[bytes], bytes]
 UNPACK: dict[str, Unpack] = {"": bytes, ".xz": lzma.decompress, ".gz": gzip.decompress}
 FIELD = re.compile(r"^(Package|Version|Architecture|Filename|SHA256|Size): *(.*)$", re.M)
+NAMED = {"Package", "Version", "Architecture"}
 ALL = "all"
 
 # What an index has of a package, by the names of its fields, and the path of the InRelease file.
@@ -175,18 +176,21 @@ class Catalog:
     def read(self, releases: Iterable[Release], keys: int) -> None:
         for release in releases:
             for signed in packages_of(release, keys):
-                if signed.get("Architecture") in self.architectures:
-                    if len(signed) < 7:  # Six fields, and the path of the signed file.
-                        raise DeviceFault(f"{shown(release.path)}: a package lacks a field")
+                # What does not say its name and its version is no package.
+                if NAMED <= signed.keys() and signed["Architecture"] in self.architectures:
                     self._take(signed)
 
     def _take(self, signed: Signed) -> None:
-        if self.files and file_name(signed) in self.files:
-            self.signed_files[file_name(signed)] = signed
         owns = {f"{signed['Package']}:{signed['Architecture']}"}
         if signed["Architecture"] in self.native:
             owns.add(signed["Package"])
-        for own in owns & self.owns:
+        owns &= self.owns
+        is_file = bool(self.files) and file_name(signed) in self.files
+        if (owns or is_file) and len(signed) < 7:  # Six fields, and the path of the signed file.
+            raise DeviceFault(f"{shown(signed[RELEASE])}: a package lacks a field")
+        if is_file:
+            self.signed_files[file_name(signed)] = signed
+        for own in owns:
             known = self.newest.setdefault(own, [])
             if known and is_less(known[0]["Version"], signed["Version"]):
                 known.clear()
