@@ -139,7 +139,7 @@ class InstallingTest(InstallTest):
 
     def test_uninstall(self) -> None:
         folder = self.path("shared")
-        self.write("shared/usr/local/bin/another", "another's program\n", 0o755)
+        self.write("shared/usr/local/bin/.aide-compare.mine", "another's file\n")
         self.write("shared/etc/kept", "another's file\n")
         os.makedirs(self.path("shared/usr/local/share/man/man1"))
         before = tree(folder)
