@@ -24,7 +24,7 @@ from .units.calls import misused
 from .sandbox import CommandTest, END, NEW, OLD
 from .test_fleet import Fleet
 
-SPEC = b"@@begin_db\n@@db_spec name perm uid gid size mtime inode lcount attr sha256\n"
+SPEC = b"@@begin_db\n@@db_spec name perm uid gid size mtime inode lcount attr sha256 lname\n"
 HOSTILE = (
     b"/a%0Aadded%20on%209%20of%209%20hosts:%20File%20/b",
     *(b"/a%1B[31m", b"/a%E2%80%AEb", b"/a%FFb", b"/a%09b", b"/a%00b", b"/a%2541", b"/a%20%20"),
@@ -41,9 +41,9 @@ def line(
 ) -> bytes:
     """The line of a database for a file with this text. A folder has a size, but no digest."""
     digest = base64.b64encode(hashlib.sha256(text).digest()) if perm.startswith(b"10") else b"0"
-    time_field = base64.b64encode(b"%d" % when)
-    rest = b"%d 1 35433483069" % inode
-    return b" ".join([path, perm, b"0 0 %d" % len(text), time_field, rest, digest])
+    attributes, target = (35433483071, text) if perm[:2] == b"12" else (35433483069, b"0")
+    rest = b"%b %d 1 %d" % (base64.b64encode(b"%d" % when), inode, attributes)
+    return b" ".join([path, perm, b"0 0 %d" % len(text), rest, digest, target])
 
 
 def database(*lines: bytes) -> bytes:
@@ -233,24 +233,24 @@ class HostsReportTest(CommandTest):
         hosts.compared({"many": (OLD, NEW), "one": (database(), database(line(b"/a", b"1")))})
         lines = [self.path(f"store/hosts/{name}/lines") for name in ("one", "many")]
         shutil.copyfile(*lines)
-        found = hosts.objects()[1]
-        reports = [found[name]["report"] for name in ("one", "many")]
-        self.assertEqual(reports, ["whole", "unreadable"], found)
+        reports = {name: host["report"] for name, host in hosts.objects()[1].items()}
+        self.assertEqual(reports, {"one": "whole", "many": "unreadable"})
 
     def test_hostile_names(self) -> None:
         """Names of hosts: in the order of paths, exact in JSON, escaped, and last in a line."""
         hosts = Hosts(self)
-        new = database(*(line(path, path) for path in HOSTILE))
-        hosts.compared({"good1": (database(), new), "good2": (database(), new)})
+        new, one, two = (line(b"/l", text, 1, b"120777") for text in (b"new", b"%ff", b"old"))
+        whole = database(new, *(line(path, path) for path in HOSTILE))
+        hosts.compared({"good1": (database(one), whole), "good2": (database(two), whole)})
         changes = hosts.objects()[2]
-        wanted = sorted(map(decoded, HOSTILE), key=lambda path: path.split(b"/"))
+        wanted = sorted(map(decoded, (*HOSTILE, b"/l")), key=lambda path: path.split(b"/"))
         self.assertEqual([path_of(each) for each in changes], wanted)
         self.assertEqual({each["hosts"] for each in changes}, {2})
         output = hosts.report().output_text
         self.assertNotRegex(output, "[\x00-\x09\x0b-\x1f\x7f\u202e]")
         self.assertLess(max(map(len, output.split("\n"))), 6000)
         starts = re.findall(r"(?m)^\w+ on (\d+) of (\d+) hosts: ", output)
-        self.assertEqual(starts, [("2", "2")] * len(HOSTILE), "no name begins a line")
+        self.assertEqual(starts, [("2", "2")] * len(wanted), "no name begins a line")
 
     def mailed(self, hosts: Hosts, *words: str) -> str:
         """The mail about all hosts. The command prints nothing."""

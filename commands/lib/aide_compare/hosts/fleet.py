@@ -90,7 +90,7 @@ class Fleet:
         if word == "Directory":
             own = OWN | {"Size"}  # The size of a directory is one of these values, too.
         old, new = (fields.get(side, {}) for side in SIDES)
-        labels = {*old, *new}
+        labels = {name.removesuffix(HEX) for name in (*old, *new)}
         what = (path, form.kind, word, rank // RANKS, known.owners)
         row = (
             host,
