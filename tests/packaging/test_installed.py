@@ -154,12 +154,12 @@ class InstalledTest(InstallTest):
         self.assertEqual(lines, [wanted] * 3, "what the jobs call")
         with self.subTest("run-parts"):
             self.needs("run-parts")
-            for name in ("aide-compare.cron.daily", "aide-compare"):
+            for name in ("aide-compare.cron.daily", "zz-aide-compare"):
                 target = self.path("parts-" + name, name)
                 os.makedirs(os.path.dirname(target))
                 shutil.copy(daily, target)
                 done = self.run_words(["run-parts", "--test", os.path.dirname(target)])
-                self.assertEqual(target in done.output_text, name == "aide-compare", done)
+                self.assertEqual(target in done.output_text, name == "zz-aide-compare", done)
 
     def test_version(self) -> None:
         """Whatever else names a version agrees with VERSION."""
