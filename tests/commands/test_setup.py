@@ -171,9 +171,8 @@ class SetupTest(CommandTest):
         reader = b"\nThen a@example.org gets a mail if a change is not silent"
         again = self.set_up("setup again", ("--no-mail",), 0, b"All was there already.", reader)
         self.assertEqual(again.output.count(b" (already)"), 8, again)
-        words = ("--to", "b@example.org")
-        told = f"stays as it is; write there: {' '.join(words)}\n".encode()
-        self.expect("another reader", self.call(TOOL, *words), 18, None, told)
+        told = b"stays as it is; write there: --to b@example.org\n"
+        self.expect("another reader", self.call(TOOL, "--to", "b@example.org"), 18, None, told)
         self.write(DEFAULTS, "--attach-page\n")
         self.set_up("setup again, for root's mail", (), 0, b"a test mail to root\n")
         self.set_up("setup again, without a word", ("-q",), 0)
@@ -186,8 +185,10 @@ class SetupTest(CommandTest):
         self.assertNotIn(b"signed.db", self.read(DEFAULTS))
 
     def test_cron(self) -> None:
-        shutil.rmtree(self.path("root/run/systemd"))
-        self.set_up("setup without systemd", ("--no-mail",), 0, b"cron.daily")
+        for user in ("no user", NOBODY_NAME):
+            self.set_machine(user)
+            self.set_up("no user of units, or no systemd", ("--no-mail",), 0, b"cron.daily")
+            shutil.rmtree(self.path("root/run/systemd"), ignore_errors=True)
         self.assertFalse(os.path.lexists(self.path("root/etc/systemd")))
         self.write("root/etc/cron.daily/dailyaidecheck", "", 0o644)
         last = "root/etc/cron.daily/" + max(os.listdir(self.path("root/etc/cron.daily")))
@@ -211,8 +212,7 @@ class SetupTest(CommandTest):
         init = f'gzip -c "{self.path("old.db")}" > "{databases}aide.db.new.gz"'
         self.stub("aide", '[ "$*" = --init ] && ' + init)
         os.chmod(databases, 0o777)
-        said = b"other users can write in"
-        self.expect("where others can write", self.call(TOOL), 18, None, said)
+        self.expect("others can write", self.call(TOOL), 18, None, b"other users can write in")
         os.chmod(databases, 0o700)
         self.set_up("of rpm", ("--no-mail",), 0, b"    aide --init\n", b"aide.db.gz")
         owners = self.owners()
@@ -230,8 +230,7 @@ class SetupTest(CommandTest):
         """The databases are where AIDE's configuration has them, until the defaults name them. One
         that names none is refused."""
         aide = "root/etc/aide/aide.conf"
-        made = self.path(DATABASES + "its.db")
-        new = self.path("root/srv/its.new")
+        made, new = self.path(DATABASES + "its.db"), self.path("root/srv/its.new")
         self.write(aide, f"database_in=file:{made}\ndatabase_out=file:{new}\n")
         os.makedirs(self.path("root/srv"))
         self.stub("aideinit", f'cp "{self.path("old.db")}" "{made}"')

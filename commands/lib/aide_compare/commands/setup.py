@@ -87,8 +87,10 @@ class Machine:
     def __init__(self, request: SetupRequest) -> None:
         self.request = request
         self.user = aides_user()
-        self.has_timer = os.path.isdir(PATHS.systemd)
         self.is_debian = aides_configuration() == PATHS.debian_configuration
+        # On Ubuntu 22.04 cron runs AIDE as root, and the user of the timer's units is not there.
+        has_user = self.user.pw_uid != 0 or not self.is_debian
+        self.has_timer = has_user and os.path.isdir(PATHS.systemd)
         self.baseline, self.new = databases_there()
         self.daily = os.path.join(PATHS.own_directory, DAILY)
         # What the job of each day needs.

@@ -43,11 +43,8 @@ def missing_lines(needed: Sequence[str]) -> list[str]:
     """Those of the lines that the job of each day needs that no line of the file mentions. One that
     an administrator has made a comment stays one."""
     there = text_there(PATHS.defaults)
-    names = [re.escape(line.split()[0]) for line in needed]
     return [
-        line
-        for line, name in zip(needed, names)
-        if not re.search(rf"(?m)^[ \t#]*{name}(?![a-z-])", there)
+        line for line in needed if not re.search(rf"(?m)^[ \t#]*{line.split()[0]}(?![a-z-])", there)
     ]
 
 
