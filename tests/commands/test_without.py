@@ -67,13 +67,13 @@ HIDDEN = """
     /var/cache/ldconfig/aux-cache /var/cache/fontconfig/3830d5c3ddfd-le64.cache-8
     /var/backups/dpkg.status.0 /var/backups/dpkg.status.1.gz /var/backups/alternatives.tar.6.gz
     /var/backups/apt.extended_states.0 /run/adduser /root/.bash_history /root/.lesshst
-    /home/anna/.bash_history /home/anna/.viminfo /home/anna/.sudo_as_admin_successful
-    /run/crond.pid /run/exim4/exim.pid /run/agetty.reload /run/sudo /run/sudo/ts
-    /run/systemd/sessions/1 /run/systemd/journal/kernel-seqnum /run/udev/data/b8:0
-    /run/host/inaccessible/blk /run/systemd/inaccessible/chr
-    /var/spool/postfix/pid/unix.bounce /var/spool/postfix/pid/inet.smtp
-    /run/reboot-required /run/reboot-required.pkgs
-    /var/cache/apt/pkgcache.bin.hSWiF9 /var/cache/apt/srcpkgcache.bin.0aZ9bY
+    /home/anna/.bash_history /home/anna/.viminfo /home/anna/.sudo_as_admin_successful /run/crond.pid
+    /run/exim4/exim.pid /run/agetty.reload /run/sudo /run/sudo/ts /run/systemd/sessions/1
+    /run/systemd/journal/kernel-seqnum /run/udev/data/b8:0 /run/host/inaccessible/blk
+    /run/systemd/inaccessible/chr /var/spool/postfix/pid/unix.bounce
+    /var/spool/postfix/pid/inet.smtp /run/reboot-required /run/reboot-required.pkgs
+    /var/cache/apt/pkgcache.bin.hSWiF9 /var/cache/apt/srcpkgcache.bin.0aZ9bY /run/sshd
+    /run/systemd/propagate/man-db.service /run/ubuntu-advantage/notices
 """
 # Accounts, keys, programs, settings of aide-compare, what apt runs as root or a program loads from
 # /var/cache, what is in homes there, and what something below /run obeys.
@@ -90,16 +90,15 @@ SEEN = """
     /var/cache/apt/archives/openssl_3.0.17-1_amd64.deb /var/cache/apt/archives
     /var/cache/apparmor/26b63962.0/usr.sbin.tcpdump /var/cache/bind/db.example /var/cache/z.sh
     /var/cache/dictionaries-common/emacsen-ispell-default.el /var/cache/debconf/config.dat
-    /var/cache/apt/archives/x/Packages /run/polkit-1/rules.d/x.rules
-    /var/cache/man/.forward /var/cache/man/.ssh/authorized_keys /var/cache/man/de/.x/index.db
-    /var/cache/man/de/x /run/sudo/ts/x /var/spool/dma/x
-    /var/backups/.forward /var/backups/shadow.bak /var/backups/.ssh/authorized_keys
-    /var/lib/aide-compare/hosts/www/aide.db /var/lib/aide-compare/daily
-    /var/cache/apt/pkgcache.bin.x /run/reboot-required.d/x /var/spool/postfix/pid
-    /var/spool/postfix/pid/x /var/spool/postfix/private/bounce
-    /var/log/.x /var/log/apt/.x/y /dev/shm/.x /run/.x.pid /run/user/0/gnupg/.x
-    /root/.bashrc /root/.profile /root/.vimrc /root/.lesskey /home/anna/.ssh/rc
-    /home/anna/x/.bash_history /home/anna/.bash_logout
+    /var/cache/apt/archives/x/Packages /run/polkit-1/rules.d/x.rules /var/cache/man/.forward
+    /var/cache/man/.ssh/authorized_keys /var/cache/man/de/.x/index.db /var/cache/man/de/x
+    /run/sudo/ts/x /var/spool/dma/x /var/backups/.forward /var/backups/shadow.bak
+    /var/backups/.ssh/authorized_keys /var/lib/aide-compare/hosts/www/aide.db
+    /var/lib/aide-compare/daily /var/cache/apt/pkgcache.bin.x /run/reboot-required.d/x
+    /var/spool/postfix/pid /var/spool/postfix/pid/x /var/spool/postfix/private/bounce /var/log/.x
+    /var/log/apt/.x/y /dev/shm/.x /run/.x.pid /run/user/0/gnupg/.x /root/.bashrc /root/.profile
+    /root/.vimrc /root/.lesskey /home/anna/.ssh/rc /home/anna/x/.bash_history
+    /home/anna/.bash_logout /run/sshd/x /run/systemd/propagate/x/y
 """
 
 
