@@ -189,6 +189,8 @@ class ArchiveRefusedTest(ArchiveCase):
         self.not_made(b"")
         os.chmod(self.path("keys.gpg"), 0o644)
         self.not_made(b"", keyring="nowhere")
+        self.set_names("commands.archive", KEYRINGS=(self.path("nowhere"), self.path("keys.gpg")))
+        self.answered(0, None, None, ARCHIVE, f"--from={SUITE}", "host-old.db", "host-new.db")
         self.write("keys.asc", b"-----BEGIN PGP PUBLIC KEY BLOCK-----\n")
         self.not_made(b"gpg --dearmor", keyring="keys.asc")
         self.not_made(b"", 15, "more")

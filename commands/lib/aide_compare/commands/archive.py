@@ -35,7 +35,11 @@ signed archive has them. A comparison takes OLD and this database as a trusted p
 Status: 0 written; 18 a file is not signed, not there, expired, or not as it was signed, or this
 took too long; 15, 22, 24, and what else 18 means: see aide-compare(1).""",
 )
-DEBIANS_KEYRING = "/usr/share/keyrings/debian-archive-keyring.gpg"
+# Of Debian and of Ubuntu. The first one that is there counts.
+KEYRINGS = (
+    "/usr/share/keyrings/debian-archive-keyring.gpg",
+    "/usr/share/keyrings/ubuntu-archive-keyring.gpg",
+)
 APTS_LISTS = "/var/lib/apt/lists"
 ARMOR = b"-----BEGIN PGP"  # As apt also takes it.
 MAX_MEMORY = 512 << 20
@@ -62,7 +66,7 @@ class ArchiveRequest(Asked):
     )
     keyrings: Sequence[str] = option(
         "--keyring",
-        f"the keys that must have signed the indexes ({DEBIANS_KEYRING})",
+        "the keys that must have signed the indexes (those of Debian or Ubuntu)",
         "FILE",
         is_repeated=True,
     )
@@ -208,7 +212,8 @@ def request_of(arguments: Sequence[str]) -> ArchiveRequest:
     if output and read_from & {os.path.realpath(output), os.path.realpath(f"{output}.old")}:
         why = "--output is one of the databases, or FILE.old is, which would be replaced"
         raise Fault(Status.USAGE, why)
-    keyrings = [os.path.abspath(path) for path in request.keyrings or [DEBIANS_KEYRING]]
+    own = next(filter(os.path.lexists, KEYRINGS), KEYRINGS[0])
+    keyrings = [os.path.abspath(path) for path in request.keyrings or [own]]
     return request.but(databases=databases, keyrings=keyrings)
 
 
