@@ -92,7 +92,7 @@ class Machine:
         has_user = self.user.pw_uid != 0 or not self.is_debian
         self.has_timer = has_user and os.path.isdir(PATHS.systemd)
         self.baseline, self.new = databases_there()
-        self.daily = os.path.join(PATHS.own_directory, DAILY)
+        self.daily = f"{PATHS.own_directory}/{DAILY}"
         # What the job of each day needs.
         self.needed = [
             f"{DATABASES.name} {self.baseline} {self.new}",

@@ -17,8 +17,8 @@ from aide_compare.base.replacement import replace
 HERE = os.path.dirname(os.path.realpath(__file__))
 # Where the package, packaging/install and the repository have the examples.
 EXAMPLES = (
-    os.path.join(HERE, "../../../../../share/doc/aide-compare/examples"),
-    os.path.join(HERE, "../../../../contrib"),
+    f"{HERE}/../../../../../share/doc/aide-compare/examples",
+    f"{HERE}/../../../../contrib",
 )
 
 
