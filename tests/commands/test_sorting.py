@@ -115,7 +115,7 @@ class SortingTest(CommandTest):
     def test_terminal(self) -> None:
         """No database is written to a terminal, which would obey some of its bytes."""
         write_large(os.path.join(self.root, "a.db"), 1)
-        for words in (["sort", "a.db"], ["archive", "--from", ".", "a.db", "a.db"]):
+        for words in (["sort", "a.db"], ["archive", "--user=nobody", "--from=.", "a.db", "a.db"]):
             status, text = self.terminal("aide-compare", *words).end()
             self.assertEqual(status, 15, text)
             self.assertIn(b": standard output is a terminal: write the database to a file\n", text)

@@ -219,12 +219,12 @@ def request_of(arguments: Sequence[str]) -> ArchiveRequest:
 
 def main(arguments: Sequence[str]) -> int:
     request = request_of(arguments)
+    if not request.output:
+        refuse_terminal()
     if request.user:
         give_up(request.user)
     elif request.output:
         become_owner(request.output)
-    else:
-        refuse_terminal()
     limit_memory(MAX_MEMORY)
     limit_time(MAX_SECONDS)
     old = copy_database("old", request.databases[0], request.max_size)
