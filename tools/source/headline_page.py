@@ -80,7 +80,7 @@ def contract_of(text: str, name: str) -> str:
 
 def law_of(text: str, name: str) -> str:
     """What a law says: its name and its type."""
-    found = re.search(rf"^( *)(pub {name} :.*?)\n\1{name}\b", text, re.DOTALL | re.MULTILINE)
+    found = re.search(rf"^( *)(pub {name} :.*?)\n\1(?:unfolding|{name})\b", text, re.S | re.M)
     if found is None:
         sys.exit(f"no law {name}")
     return found.group(2).replace("\n" + found.group(1), "\n")
