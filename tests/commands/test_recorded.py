@@ -148,9 +148,9 @@ class RecordedTest(CommandTest):
         self.check("links", host, wanted)
 
     def test_named(self) -> None:
-        """Packages that came or went, but for their configuration, are named before all else."""
+        """Packages that came or went, but for their configuration, are named before all else, also
+        on a machine without records."""
         host = Host()
-        host.packages.append(Package("stayed", "1", {}))
         for name in ("left.list", "left.md5sums", "rose.list", "rose.md5sums", "went.list"):
             host.old.file(INFO + name.encode(), ONE)
         for name in ("came.list", "came.md5sums", "left.list", "rose.list", "rose.md5sums"):

@@ -21,7 +21,7 @@ SAMPLE = {
     b"/usr/.x y": "open high",
     b"/usr/lib/tool": "recorded medium tool 2",
 }
-# Records of packages that fail when the changes are grouped already.
+# Packages whose names cannot be found out.
 UNNAMED = "named_packages\ndef named_packages(*_):\n    raise MemoryError\n"
 WORDS = "4 open (1 high), 1 recorded of 6 changes"
 BRIEF = f"""{WORDS}
@@ -208,7 +208,7 @@ class StandingsTest(mail.MailTest):
         self.after_import("changes.judged", UNNAMED)
         answer = self.call(TOOL, "o.db", "n.db")
         told = [b"no package groups the changes: out of memory", b"5 open (1 high)"]
-        self.expect("records that fail late", answer, 7, b"5 open (1 high) of 6", told)
+        self.expect("names that fail", answer, 7, b"5 open (1 high) of 6", told)
 
     def test_hostile(self) -> None:
         """Names of others are escaped in the text, and cannot make a line of it."""

@@ -92,12 +92,10 @@ class Judged:
             raise DeviceFault("the counts of the standings are not those of the changes")
         return counts
 
-    def group_by(self, records: Dpkg | Rpm, has_pair: bool) -> None:
-        """Finds out which changes are as the packages' records of this machine have them.
-        `has_pair`: a trusted pair says which of the records are signed."""
+    def group_by(self, records: Dpkg | Rpm) -> None:
+        """Finds out which changes are as the packages' records of this machine have them."""
         try:
             Matcher(self.table, self.read).match(records)
-            self.named = named_packages(self.table, has_pair)
         except BaseException:
             self.table.forget_records()
             raise

@@ -3,7 +3,7 @@ from __future__ import annotations
 
 from aide_compare.base.ending import why_of
 from aide_compare.base.words import TRUSTED_SIDES
-from aide_compare.changes.judged import Judged
+from aide_compare.changes.judged import Judged, named_packages
 from aide_compare.changes.recorded import records_of_host
 from aide_compare.compare.comparison import Comparison
 
@@ -26,8 +26,9 @@ def group(comparison: Comparison, judged: Judged) -> None:
     """Packages' records of this machine group the changes. If these cannot be read, a doubt says
     why, and each change stays open."""
     try:
+        judged.named = named_packages(judged.table, TRUSTED_SIDES[1] in comparison.copies)
         records = records_of_host() if len(judged.table) else None
         if records:
-            judged.group_by(records, TRUSTED_SIDES[1] in comparison.copies)
+            judged.group_by(records)
     except Exception as error:
         comparison.doubts.append(f"no package groups the changes: {why_of(error)}")
