@@ -33,9 +33,9 @@ NAMING = rb".*/([A-Za-z0-9][A-Za-z0-9+.-]*)(?::[a-z0-9-]+)?\.(list|md5sums)"
 
 
 class Judged:
-    """The changes of a comparison: a `table` of those that are not silent, the `counts` of all, and
-    the packages that are `named`, with whose records say so in `by`. `reader` has not given any
-    line before; its file is read again for the values of a change."""
+    """The changes of a comparison: a `table` of those that are not silent, the `counts` of all, the
+    packages that are `named`, and in `by` whose records group the changes. `reader` has not given
+    any line before; its file is read again for the values of a change."""
 
     def __init__(self, reader: Reader) -> None:
         self.reader = reader
