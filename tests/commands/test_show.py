@@ -43,7 +43,7 @@ class ShowTest(CommandTest):
     def test_values(self) -> None:
         """What changed, as people read it; what did not is left out."""
         digest = base64.b64encode(bytes(range(32)))
-        acl = b"POSIX," + base64.b64encode(b"user::rw-\ngroup::r--\nother::r--\n") + b",0"
+        acl = b"POSIX," + base64.b64encode(b"group::r--\n" * 30 + b"other::r--\n") + b",0"
         fields = ATTR, digest, acl
         entry = b"/x 0 %d 104755 8 0 1000 5 MTcwMDAwMDAwMA== 77 1 %s %s 0\n" % fields
         self.write("one.db", COLUMNS + entry + END)
@@ -54,7 +54,7 @@ class ShowTest(CommandTest):
             "open high changed File: /x",
             "    size       5 -> 6",
             "    mtime      2023-11-14T22:13:20Z -> 2023-11-14T22:13:21Z",
-            "    ACL        user::rw-, group::r--, other::r-- -> none",
+            f"    ACL        {'group::r--, ' * 30}other::r-- -> none",
         ]
         self.assertEqual(answer.output.decode().splitlines(), wanted)
 

@@ -17,18 +17,16 @@ if TYPE_CHECKING:
     from aide_compare.changes.judged import Judged
     from aide_compare.compare.comparison import Comparison
 
-MAX_VALUE = 200
-
 
 def _shown(label: str, value: Value, text: str | None) -> str | None:
     """A value for people; None if there is none."""
     if text is not None:
-        return guarded(text[:MAX_VALUE])
+        return guarded(text)
     if isinstance(value, int):
         return date_of(value) if FORMS[label] == "time" else str(value)
     if value is None:
         return None
-    return shown(value, MAX_VALUE)
+    return shown(value)
 
 
 class Row(NamedTuple):
