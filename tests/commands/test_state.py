@@ -259,8 +259,8 @@ class CheckTest(StateTest):
         if os.geteuid() == 0:  # This limit is none for root.
             none = f"{AS_NOBODY}; {none}"
             os.mkdir(self.path("secret"), 0o700)
-            words = ["--state=secret/state"]
-            self.check("out of sight", 3, "Permission denied", words=words, before=AS_NOBODY)
+            for words in (["--state=secret/state"], ["--state=secret/state", "--format=text"]):
+                self.check("out of sight", 3, "Permission denied", words=words, before=AS_NOBODY)
         self.assertEqual(self.ask(CHECK, before=none).status, 0, "it needs no process")
         with open("/dev/full", "wb") as full:
             self.assertEqual(self.ask(CHECK, stdout=full).status, 3, "a full device")

@@ -15,7 +15,7 @@ from aide_compare.base.ending import (
     write_blocks,
 )
 from aide_compare.base.escapes import guarded, shown
-from aide_compare.base.files import is_name
+from aide_compare.base.files import is_missing, is_name
 from aide_compare.base.replacement import replace
 from aide_compare.base.rights import become_owner
 from aide_compare.base.kinds import AlarmLimit
@@ -153,7 +153,7 @@ def mail_lines(request: StatusRequest) -> list[str]:
 
 def write_text(request: StatusRequest) -> int:
     """What people read. Without a state it says how to get one."""
-    if not os.path.lexists(request.state):
+    if is_missing(request.state):
         text = f"no comparison is known: there is no {shown(request.state)}"
         hint = "aide-compare setup makes this machine ready for one each day"
         raise DeviceFault(text, hint)
