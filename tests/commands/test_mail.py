@@ -4,6 +4,7 @@ from __future__ import annotations
 import base64
 import hashlib
 import os
+import subprocess
 import time
 from typing import Any
 
@@ -30,12 +31,7 @@ All changes with their values, as a page (with the options of this job):
 class TextsTest(MailTest):
     def test_texts(self) -> None:
         old, new = self.path("old.db"), self.path("new.db")
-        rows: list[tuple[tuple[str, ...], str]] = [
-            ((), "root"),
-            (("--to", "a@b.example"), "a@b.example"),
-            (("--to=x, y",), "x, y"),
-        ]
-        for words, to in rows:
+        for words, to in ((), "root"), (("--to", "a@b.c"), "a@b.c"), (("--to=x, y",), "x, y"):
             message = self.mail("old.db", "new.db", *words)
             assert message
             self.assertEqual((message["To"], subject(message)), (to, SUBJECT + COUNTS))
@@ -74,6 +70,10 @@ class TextsTest(MailTest):
         said = b"two outputs have one place, such as standard output"
         self.refused(15, said, TOOL, "--json=-", "--page=-", "old.db", "new.db", state="state")
         self.assertIn(said, body(sent(self)))
+        with subprocess.Popen("true", stdin=subprocess.PIPE) as gone:
+            gone.wait()
+            call(self, "--json=-", "old.db", "new.db", stdout=gone.stdin)
+        self.assertIn(b"aide-compare: nobody reads standard output", body(sent(self)))
 
     def test_changed_list(self) -> None:
         """A list that was changed is mailed even if nothing differs; the same list is not."""

@@ -8,7 +8,7 @@ from contextlib import suppress
 from functools import partial
 from typing import TYPE_CHECKING
 
-from aide_compare.base.ending import Fault, write_blocks
+from aide_compare.base.ending import Fault, ReaderGone, write_blocks
 from aide_compare.base.escapes import encoded, shown
 from aide_compare.base.files import blocks_of, nameless, private_place
 from aide_compare.base.replacement import ANYBODY_READS
@@ -264,8 +264,8 @@ class Printer:
         yield encoded(text)
 
     def _failure(self, comparison: Comparison, _judged: Judged | None) -> Iterable[bytes]:
-        """Why nothing was compared."""
-        if comparison.has_failed:
+        """Why nothing was compared. Who has gone needs no reason."""
+        if comparison.has_failed and not isinstance(comparison.fault, ReaderGone):
             yield encoded(told_of(comparison, self.request.is_quiet, self.request.is_verbose))
 
 

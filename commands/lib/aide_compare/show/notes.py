@@ -5,7 +5,6 @@ import os
 from collections.abc import Iterable
 from typing import TYPE_CHECKING
 
-from aide_compare.base.ending import ReaderGone
 from aide_compare.base.escapes import guarded, shown, shown_lines
 from aide_compare.base.words import counted
 
@@ -27,9 +26,7 @@ def _notes_of(comparison: Comparison, verbose: bool) -> list[str]:
 def _faults_of(comparison: Comparison) -> list[str]:
     """Why nothing was compared, the cause first."""
     fault = comparison.fault
-    if fault is None or isinstance(fault, ReaderGone):
-        return []
-    return [fault.text, *fault.more]
+    return [fault.text, *fault.more] if fault else []
 
 
 def _errors_of(comparison: Comparison) -> list[str]:
@@ -56,7 +53,7 @@ def told_of(comparison: Comparison, quiet: bool = False, verbose: bool = False) 
     was compared, the cause comes first, and notes only with `verbose`. With `quiet` there are no
     notes, and what the program says only then."""
     hints = _ours([*comparison.hints, *comparison.doubts, *comparison.warnings])
-    if comparison.status > 7:
+    if comparison.has_failed:
         lines = [*_ours(_faults_of(comparison)), *_errors_of(comparison), *hints]
         if verbose and not quiet:
             lines += _ours(_notes_of(comparison, verbose))
