@@ -26,7 +26,7 @@ BITS = {"l": 1, "p": 2, "u": 3, "g": 4, "s": 5, "a": 6, "c": 7, "m": 8, "i": 9, 
 # The bits of digests and of texts without further meaning.
 OTHER_BITS = {
     **dict(zip("md5 sha1 rmd160 tiger crc32 haval gost crc32b".split(), range(12, 20))),
-    **{"acl": 21, "selinux": 22, "sha256": 30, "sha512": 31, "xattrs": 33, "whirlpool": 34},
+    **{"acl": 21, "selinux": 32, "sha256": 30, "sha512": 31, "xattrs": 33, "whirlpool": 34},
     **{"e2fsattrs": 36, "capabilities": 37},
 }
 NAMES = b"a/b/c a/b.c a-b a%20b a a.txt a@b B %c3%bc %ff new%0aline per%2541 # ~ a/%01".split()
