@@ -1,7 +1,7 @@
 """The table of options. But for --format and --max-age an option is one row, whatever commands have
 it: rows that several commands have, or that may stand in the administrator's file of defaults, are
 here, all others in the module of their command. What a command line asks for is a class whose
-fields are rows, of which base/parser.py makes the parser, the help and the completions.
+fields are rows: base/parser.py makes the parser and the help, packaging/completions completions.
 """
 from __future__ import annotations
 
