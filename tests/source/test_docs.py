@@ -151,16 +151,6 @@ class Docs(unittest.TestCase):
             self.assertTrue(named, call)
             self.assertEqual(named - promised_by(call, sources[call]), set(), call)
 
-    def test_crates_that_each_crate_uses(self) -> None:
-        """PROVED says what a crate uses as crates.txt does. `the crates below` need no names."""
-        uses = libraries()
-        parts = re.split(r"\n## `(\w+)`.*\n", self.pages["docs/PROVED.md"])
-        for crate, part in zip(parts[1::2], parts[2::2]):
-            for text in re.findall(r"^(?:.* )?(?:Uses|It uses) (.*?)\.\s", part, re.M | re.S)[:1]:
-                named = set(re.findall(r"`(\w+)`", text))
-                unnamed = set(uses) if "crates below" in text else set()
-                self.assertEqual(named | unnamed, set(uses[crate]) | unnamed, crate)
-
     def test_crates_that_a_caller_copies(self) -> None:
         """LIBRARY names all crates that a caller of either call needs."""
         copied: set[str] = set()
