@@ -108,7 +108,7 @@ class CanaryTest(CommandTest):
         self.compared(hosts, "--canary", "www1")
         kept = self.path("store/hosts/www1/aide.db.new")
         os.utime(kept, (time.time() - 9 * 3600,) * 2)
-        late = "has sent the same database for more than 90 minutes"
+        late = "has sent no new database for more than 90 minutes"
         self.check_failed(hosts, late, "--same-for", "90m")
 
     def test_no_note(self) -> None:

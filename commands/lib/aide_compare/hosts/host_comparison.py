@@ -133,7 +133,7 @@ def age_fault(directory: HostDirectory, request: HostsRequest) -> str:
     if age < 0:
         return "its database was fetched in the future; is the clock of this host right?"
     limit = age_in_words(request.same_for)
-    return f"has sent the same database for more than {limit}; does AIDE run there?"
+    return f"has sent no new database for more than {limit}; does AIDE run there?"
 
 
 def as_not_compared(directory: HostDirectory, state: State, why: str) -> State:
