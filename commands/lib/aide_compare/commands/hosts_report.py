@@ -35,7 +35,7 @@ from aide_compare.hosts.hosts_file import hosts_of
 from aide_compare.hosts.hosts_read import read_host
 from aide_compare.hosts.hosts_text import Report, headline, report_lines, short_lines
 from aide_compare.hosts.report_values import CUT, UNREADABLE, HostCounts, Summary
-from aide_compare.mail.message import build, clean, host_name, within
+from aide_compare.mail.message import build, clean, host_name
 from aide_compare.mail.sending import deliver, transport_for
 from aide_compare.show.json_lines import line_of
 
@@ -50,7 +50,7 @@ Status, the highest of all hosts: 0 nothing to read, 1 to 7 changes that are not
 silent, above 7 some host was not compared. 15, 18 or 22 if the command itself fails.""",
 )
 MAX_NAMES = 20  # Of the hosts of a change, for people.
-# The page that a mail may have. It leaves out what has no room, and says how much.
+# The page that a mail may have. It leaves out changes that have no room, and says how many.
 MAX_MAILED_PAGE = 500000
 
 
@@ -147,7 +147,7 @@ class HostsReport:
             return
         attached = None
         if request.has_page:
-            attached = within(page(self.report, MAX_MAILED_PAGE), 2 * MAX_MAILED_PAGE)
+            attached = b"".join(page(self.report, MAX_MAILED_PAGE))
         deliver(way, build(address, title, clean(b"".join(self.brief())), attached))
 
     def parts(self, form: str) -> Iterable[bytes]:

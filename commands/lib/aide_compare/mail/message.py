@@ -4,7 +4,7 @@ from __future__ import annotations
 import os
 import re
 import time
-from collections.abc import Iterable, Sequence
+from collections.abc import Sequence
 
 from aide_compare.base.escapes import encoded, shown_lines
 from aide_compare.base.words import KINDS
@@ -38,16 +38,6 @@ def subject_of(state: State, columns: Sequence[str] = (), warnings: Sequence[str
     if columns:
         parts.append(not_compared([re.sub(r"[^A-Za-z0-9._#-]", "?", name) for name in columns]))
     return f"aide on {host_name()}: {'; '.join(parts)}"
-
-
-def within(parts: Iterable[bytes], limit: int) -> bytes | None:
-    """The parts as one, or None if they have more than so many bytes."""
-    whole = bytearray()
-    for part in parts:
-        whole += part
-        if len(whole) > limit:
-            return None
-    return bytes(whole)
 
 
 def clean(text: str | bytes) -> bytes:
