@@ -100,7 +100,7 @@ class ReplacementTest(PlacesTest):
             ("own/short", 18, "a link"),
             ("group/state", 18, "other users"),
             ("own/file/state", 18, "Not a directory"),
-            ("group/none/state", 18, "No such file"),
+            ("group/none/state", 18, "none is made where another user"),
         ):
             self.fails(status, part, begun, self.path(name))
         self.fails(15, "is a directory", replacement.Replacement, self.path("own"))

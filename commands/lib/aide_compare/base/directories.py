@@ -86,8 +86,11 @@ class Directory:
         try:
             return os.open(name, PIECE, dir_fd=self.fd)
         except FileNotFoundError:
-            if not make or not self.is_safe():
+            if not make:
                 raise
+            if not self.is_safe():
+                text = "No such file or directory, and none is made where another user can write"
+                raise failure(errno.ENOENT, text)
         mask = os.umask(0o022)
         try:
             with suppress(FileExistsError):
