@@ -106,7 +106,7 @@ def releases_of(directories: Iterable[str], known: Collection[str]) -> list[Rele
     trusts; and of apt's lists those that the old database knows. Of all else only packages are
     read."""
     releases = []
-    for directory in [os.path.normpath(path) for path in directories]:
+    for directory in [os.path.abspath(path) for path in directories]:
         _, is_mirror, suite = directory.rpartition("/dists/")
         if is_mirror:
             path = os.path.join(directory, RELEASE)
