@@ -127,7 +127,7 @@ class BaselineTest(ModuleTest):
         self.expect("the new one", self.rights(NAME), (0o644, OTHER, 12346))
 
     def test_names(self) -> None:
-        self.fails(15, "name of a file: ''", Baseline, "")
+        self.fails(15, "name of a file: -", Baseline, "-")
 
     def test_lock(self) -> None:
         with mock.patch.object(baseline, "SECONDS_FOR_LOCK", 0), opened(self.base):

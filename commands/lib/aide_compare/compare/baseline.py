@@ -62,9 +62,8 @@ class Baseline:
     def __init__(self, path: str) -> None:
         self.path = path
         self.name = os.path.basename(path)
-        if self.name in ("", ".", ".."):
-            name = shown(path) or "''"
-            raise Fault(Status.USAGE, f"the baseline needs the name of a file: {name}")
+        if self.name in ("", ".", "..") or path == "-":
+            raise Fault(Status.USAGE, f"the baseline needs the name of a file: {shown(path)}")
         self.words = f"cannot write the baseline {shown(path)}"
         self.previous = f"{self.name}.previous"
         # The new baseline until it has its name, a second name of it by which a later run knows it,
