@@ -179,10 +179,10 @@ class SetupTest(CommandTest):
         self.assertEqual(self.calls()[-2:], [f"mail --test --user {NOBODY_NAME}"] * 2)
         lines = self.read(DEFAULTS).decode().splitlines()
         self.assertEqual([line.split()[0] for line in lines], ["--attach-page", *DAYS_OPTIONS])
-        text = "--attach-page\n# --trusted: no\n#--databases\n--state=x\n --max-age 9h"
+        text = "#" * 99999 + "\n# --trusted: no\n#--databases\n--state=x\n --max-age 9h"
         self.write(DEFAULTS, text)
         self.set_up("what an administrator wrote stays", ("--no-mail",), 0, b"All was there")
-        self.assertNotIn(b"signed.db", self.read(DEFAULTS))
+        self.assertEqual(self.read(DEFAULTS).decode(), text)
 
     def test_cron(self) -> None:
         for user in ("no user", NOBODY_NAME):

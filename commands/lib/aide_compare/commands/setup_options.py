@@ -20,11 +20,11 @@ FIRST_LINES = """\
 # aide-compare-setup(8).
 --weekly Mon
 """
-MAX_OPTIONS_BYTES = 1 << 16
+MAX_OPTIONS_BYTES = 1 << 22
 
 
 def text_there(path: str) -> str:
-    """The text of a file; nothing without one. Its last line has an end."""
+    """The text of a file; nothing if it cannot be read. Its last line has an end."""
     with suppress(Fault, OSError):
         text = os.fsdecode(read_file(path, MAX_OPTIONS_BYTES))
         return text if text.endswith("\n") else f"{text}\n"
@@ -66,6 +66,8 @@ def write_options(address: str | None, needed: Sequence[str]) -> None:
             why = f"{PATHS.defaults} stays as it is; write there: {TO.name} {shown(address or '')}"
             raise DeviceFault(why)
         text = text_there(PATHS.defaults)
+        if not text:
+            raise DeviceFault(f"{PATHS.defaults} cannot be read, so it stays as it is")
     else:
         text = FIRST_LINES
         if address:
