@@ -223,7 +223,7 @@ class InstallingTest(InstallTest):
         self.assertEqual((done.status, done.error_text), (0, ""), done)
         done = self.install("--help")
         self.assertEqual((done.status, "--uninstall" in done.output_text), (0, True), done)
-        self.assertIn("17 minutes", done.output_text)
+        self.assertIn("20 minutes", done.output_text)
 
     def unbuilt(self, *without: str) -> tuple[str, dict[str, str]]:
         """A copy in which nothing is built, and an environment with an rt that notes its calls."""
