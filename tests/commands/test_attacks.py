@@ -179,7 +179,7 @@ class AttacksTest(CommandTest):
             os.close(writing)
             errors = process.communicate()[1]
             self.assertEqual(process.returncode, 18, (tool, errors))
-            self.assertNotRegex(errors, rb"pipe|cannot|failed|Traceback", tool)
+            self.assertNotRegex(errors, rb"nobody|pipe|cannot|failed|Traceback", tool)
             if "state" in words:
                 self.assertEqual(self.state()["status"], "18", tool)
                 os.remove(self.path("state"))
