@@ -115,8 +115,7 @@ class SetupTest(CommandTest):
     def test_before(self) -> None:
         """--check changes nothing and sends no mail, and any user may ask."""
         before = self.owners()
-        missing = (b"missing: the baseline", b"7 things are missing\n")
-        self.set_up("--check", ("--check",), 18, *missing)
+        self.set_up("--check", ("--check",), 18, b": the baseline", b"7 things are missing\n")
         self.set_up("--check -q", ("--check", "-q"), 18)
         answer = self.call(TOOL, "--check", before=AS_NOBODY)
         self.expect("--check by a user", answer, 18, [b"the timer"], b"")
@@ -183,6 +182,8 @@ class SetupTest(CommandTest):
         self.write(DEFAULTS, text)
         self.set_up("what an administrator wrote stays", ("--no-mail",), 0, b"All was there")
         self.assertEqual(self.read(DEFAULTS).decode(), text)
+        self.write(DEFAULTS, "#" * (5 << 20))
+        self.expect("too large", self.call(TOOL), 18, None, b"be read, so it stays as it is\n")
 
     def test_cron(self) -> None:
         for user in ("no user", NOBODY_NAME):
@@ -227,8 +228,7 @@ class SetupTest(CommandTest):
         self.assertIn(line, self.read(DEFAULTS).decode().splitlines())
 
     def test_other_paths(self) -> None:
-        """The databases are where AIDE's configuration has them, until the defaults name them. One
-        that names none is refused."""
+        """The databases are where AIDE's configuration has them, until the defaults name them."""
         aide = "root/etc/aide/aide.conf"
         made, new = self.path(DATABASES + "its.db"), self.path("root/srv/its.new")
         self.write(aide, f"database_in=file:{made}\ndatabase_out=file:{new}\n")
