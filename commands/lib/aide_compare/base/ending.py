@@ -43,8 +43,8 @@ class DeviceFault(Fault):
 
 
 class ReaderGone(DeviceFault):
-    """Nobody reads standard output any more, as after head(1) has what it wants. Nothing is said
-    then."""
+    """Nobody reads standard output any more, as after head(1) has what it wants. Standard error has
+    nothing of it."""
 
     def __init__(self) -> None:
         super().__init__("nobody reads standard output any more")
