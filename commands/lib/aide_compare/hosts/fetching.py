@@ -63,7 +63,7 @@ def transfer(directory: HostDirectory, part: NewFile, limit: int) -> None:
     if status != 0:
         raise directory.fault(cause_of(bytes(errors), status))
     if not os.fstat(part.fd).st_size:
-        raise directory.fault("sent nothing")
+        raise directory.fault("sent nothing; is AIDE still at work there?")
 
 
 def cause_of(errors: bytes, status: int) -> str:
