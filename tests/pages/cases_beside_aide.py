@@ -18,7 +18,7 @@ Pair = tuple[T, T]
 SHA256, I_BIT, ANF, ARF, TYPE, GROWING = 30, 27, 28, 29, 35, 40
 CHMOD = ("100644", "100600")
 XATTRS, FLAGS = Column("xattrs", (33,)), Column("e2fsattrs", (36,))
-SIZE, MTIME = Column("size", (5,)), Column("mtime", (8,))
+SIZE, GROWS, MTIME = Column("size", (5,)), Column("size", (26,)), Column("mtime", (8,))
 LOG, LOG_AND_DIGEST = Column("size", (5, GROWING)), Column("size sha256", (5, GROWING, SHA256))
 EMPTY = "47DEQpj8HBSa+/TImW+5JCeuQeRkm5NMpJWZG3hSuFU="
 OTHER = "A" * 43 + "="
@@ -160,8 +160,7 @@ WITH = of_mode("sha256", entry(EMPTY, SHA256))
 DIFFERENT = r"Entry /a in databases has different attributes: "
 XATTR = ("0", "1,dXNlci54,MQ==")
 REVERSED = ("2,dXNlci5vbmU=,MQ==,dXNlci50d28=,Mg==", "2,dXNlci50d28=,Mg==,dXNlci5vbmU=,MQ==")
-FILE = entry("")
-ONE = of_mode("", FILE)
+FILE, ONE = entry(""), of_mode("", entry(""))
 # Another file, with the bit of a rule that allows it to come, or to go.
 MAY_COME, MAY_GO = entry("", ANF, path="/b"), entry("", ARF, path="/b")
 
@@ -231,6 +230,7 @@ ATTRIBUTES = [
         of_mode("", entry("", mode="120644")),
         texts=(r"l   p             : /a", ""),
     ),
+    fields("a log that shrank, without s", (4, 0), GROWS, ("2", "1")),
     fields("a log that has grown", (0, 4), LOG, ("1", "2")),
     fields(
         "a log that has grown, with a digest",
