@@ -105,11 +105,9 @@ CONFIGURATION = [
     also("the group > ignored", (0, 4), IGNORED + ">"),
     also("a report to a file", (4, 4), "report_url=file:DIR/report", texts=(r"\A\Z", "AIDE found")),
     also(
-        "two reports",
-        (4, 0),
-        f"report_url=file:DIR/report\n{IGNORED}s\nreport_url=stdout",
-        texts=("NO differences", "NO differences"),
+        "two reports", (4, 0), f"report_url=file:DIR/r\n{IGNORED}s\nreport_url=stdout", ("NO", "NO")
     ),
+    also("options behind report_url=file", (4, 0), f"report_url=file:DIR/r\n{IGNORED}s"),
     also("options behind report_url=stdout", (4, 4), f"report_url=stdout\n{IGNORED}s"),
     also("a misspelt option", (17, 4), "report_ignore_changed_atrs=s"),
     also("a group in lower case", (17, 4), "mygroup=s"),
