@@ -168,7 +168,7 @@ class TextsTest(ModuleTest):
             ("raise MemoryError", 22, "name: out of memory\n"),
             ("raise Done", 0, ""),
             ("sys.exit(2)", 18, "name: a fault of this command: SystemExit: 2\n"),
-            ("return None", 18, ""),
+            ("return None", 18, None),
             ("open('/no\\n')", 18, failed),
             ("main(arguments)", 18, None),
             ("raise KeyboardInterrupt", 18, None),

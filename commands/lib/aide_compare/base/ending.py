@@ -210,4 +210,4 @@ def called(name: str) -> None:
 def command(name: str, main: Main) -> int:
     """Runs `main(arguments)` and returns the status with which the command ends."""
     called(name)
-    return status_of(lambda: _run(main)) & 255
+    return status_of(lambda: _run(main) & 255)
