@@ -38,7 +38,7 @@ MAX_NOTE = 5000
 SILENT = "is silent on the other hosts"
 UNLISTED = (
     "what was silent beside it is not listed here, since it was compared again or is no host of"
-    " this report; compare all hosts again"
+    " this report; compare and report all hosts again"
 )
 # So long after its report the pair of an accepted canary serves hosts that lag behind.
 MAX_LAG = 7 * 86400
