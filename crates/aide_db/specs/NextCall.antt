@@ -58,7 +58,7 @@ pub record IsNextOf {R : Type 0} (r : Reels R) (c e : CursorView R) (d f : DeskV
   pub answers : Answers c e d f text result
   -- A sound text has no fault except out of memory and a failed read, so without these its end is reached.
   pub unsound : IfErr result (λ fault. is_outside fault.kind ≡ false → IsSound c.limits text → ⊥)
-  -- At a fault, no entry before its line is left out, and the columns are those of a spec line before it.
+  -- At a fault, no entry before its line is left out, and the columns are those of the spec line before it, if any.
   pub up_to : UnlessDone c.stage (IsUpTo c e text result)
   -- the longest line of the text bounds the peak, as the limit does
   pub long : f.peak ≤ peak_limit c.side d (longest_line c.limits text)

@@ -118,7 +118,7 @@ pub(crate) fn run_and_pass_on<S: Site, W: Sink, E: Sink>(
 
 /// Runs the whole program over any site, on this desk. Reads the arguments, then the configuration,
 /// and then compares the two databases if a comparison is asked for. Returns the exit status, as
-/// aide-compare(1) lists it: 0 to 7, 15, 17, 18, 22 or 24.
+/// aide-compare-program(8) lists it: 0 to 7, 15, 17, 18, 22 or 24.
 ///
 /// The report goes to `out`. Lines go to `err`: one line for a fault, or after a good comparison
 /// one line for each column that was skipped. `err` is flushed at the end. A failure of `err`

@@ -21,7 +21,7 @@ pub trait Sink {
     /// How often the device was flushed. Failed flushes do not count.
     ghost flushes: { Self → ℕ };
 
-    /// Whether all delivered bytes have been flushed.
+    /// Whether the device was flushed, and nothing was written after that.
     ghost is_flushed: { Self → Bool };
 
     /// Takes the first of these bytes, of which there must be one, and returns how many it took: at least one. A failed
