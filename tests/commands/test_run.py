@@ -84,14 +84,21 @@ class RunTest(CommandTest):
         report = self.run_tool().output
         self.expect("the databases of the command line win", answer, 7, report, DIFFER)
 
-    def test_no_database_is_an_output(self) -> None:
-        """None is replaced, be it named by the command line or by the defaults."""
+    def test_no_output_is_read(self) -> None:
+        """No file that is read is replaced, be it named by the command line or by the defaults."""
         self.write("etc/defaults", "--databases {0}/old.db {0}/new.db\n".format(self.root))
-        said = b"an output is one of the databases, which would be replaced"
+        others = {"list": "/a\n", "aide.conf": "report_level=minimal\n"}
+        for name, text in others.items():
+            self.write(name, text)
+        named = {"": "new.db", "old.db new.db": "new.db"}
+        named |= {"--exclude-from list": "list", "--config ./aide.conf old.db new.db": "aide.conf"}
+        said = b"an output is one of the files read, which would be replaced"
         for option in ("--json", "--page", "--state"):
-            for words in ("old.db new.db", ""):
-                self.refused(15, said, "aide-compare", option, "./new.db", *words.split())
+            for words, name in named.items():
+                self.refused(15, said, "aide-compare", option, f"./{name}", *words.split())
         self.assertEqual(self.read("new.db"), NEW)
+        for name, text in others.items():
+            self.assertEqual(self.read(name), text.encode())
 
     def test_state(self) -> None:
         before = int(time.time())

@@ -156,9 +156,10 @@ def work_request(request: CompareRequest) -> ComparisonInput:
     if len(set(request.places)) < len(request.places):
         raise Fault(Status.USAGE, "two outputs have one place, such as standard output")
     old, new = request.databases
-    databases = {os.path.realpath(path) for path in (old, new, *request.trusted)}
-    if databases.intersection(request.places):
-        raise Fault(Status.USAGE, "an output is one of the databases, which would be replaced")
+    others = (*request.trusted, *request.exclude_from, request.configuration or NONE)
+    read = {os.path.realpath(path) for path in (old, new, *others)}
+    if read.intersection(request.places):
+        raise Fault(Status.USAGE, "an output is one of the files read, which would be replaced")
     return ComparisonInput(
         old=old,
         new=new,
