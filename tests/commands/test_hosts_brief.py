@@ -147,6 +147,15 @@ class HostsPageTest(CommandTest):
         self.only(data["rows"], "/zz", "on 1 of 3 hosts: good3")
         self.assertIn(self.path("store"), remark.partition("This command prints all: ")[2])
 
+    def test_lists_cut(self) -> None:
+        """A list of hosts that has no room for all names the first ones and counts the others."""
+        hosts = Hosts(self)
+        hosts.compared({"good1": (OLD, OLD)})
+        hosts.list_hosts("good1", "lost1", "lost2", "lost3")
+        self.set_names("hosts.hosts_page", MAX_LIST=30)
+        lists = data_in(hosts.report("--format=page").output_text)["heading"]["lists"]
+        self.assertIn(["Not compared: 3", ["lost1: was never compared", "and 2 more"]], lists)
+
 
 HOSTS = 4
 LOGS = b"/var/log/a 36 100644 %d\n"
