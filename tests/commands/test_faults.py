@@ -83,13 +83,11 @@ class FaultsTest(CommandTest):
             words = (TOOL, "old.db", "large.db")
             self.refused(18, told, *words, state="state", environment={"TMPDIR": small})
             self.assertEqual(os.listdir(small), [], "nothing is left on a full disk")
-            before = self.read("state")
             shutil.copy(self.path("state"), small)
             with contextlib.suppress(OSError), open(os.path.join(small, "filler"), "wb") as filler:
                 filler.write(b"x" * 65536)
             answer = self.call(TOOL, "old.db", "new.db", "--state", "small/state")
-            self.assertEqual((answer.status, self.read("small/state")), (18, before), answer)
-            self.assertEqual(sorted(os.listdir(small)), ["filler", "state"])
+            self.assertEqual((answer.status, os.listdir(small)), (18, ["filler"]), answer)
 
     def test_no_program(self) -> None:
         """The program is found beside the command only."""

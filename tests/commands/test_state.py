@@ -122,7 +122,8 @@ class StatusTest(StateTest):
 
     def test_failed_start(self) -> None:
         """A run that cannot begin leaves a state that says so; a wrong command changes nothing."""
-        for tool in ("aide-compare", "aide-compare mail --queue queue"):
+        tools = "aide-compare", "aide-compare mail --queue queue"
+        for tool in tools:
             for name, text, status in (("defaults", "--odd\n", 15), ("without", "no path\n", 17)):
                 self.put()
                 self.write("etc/" + name, text)
@@ -137,6 +138,11 @@ class StatusTest(StateTest):
         self.write("etc/defaults", "--databases old.db new.db\n--state state\n")
         self.refused(18, b"cannot open", "aide-compare", "--exclude-from", "none")
         self.assertEqual(self.state()["status"], "18", "a state that the defaults name")
+        self.write("etc/defaults", "--odd\n--databases old.db new.db\n--trusted a\n--state state\n")
+        for tool in tools:
+            self.put()
+            self.expect(tool, self.call(tool), 15)
+            self.assertIn("line 1", self.state()["error"], "another line has a fault")
         self.write("etc/defaults", "--databases old.db gone.db\n--state state\n")
         self.refused(18, b"cannot open the new", "aide-compare", "./old.db", "./gone.db")
         self.assertIn("the new database", self.state()["error"], "they name both")
@@ -196,7 +202,7 @@ class CheckTest(StateTest):
     def test_check(self) -> None:
         for status, added, removed, changed, want in (
             (0, 0, 0, 0, 0),
-            (1, 5, 0, 0, 1),
+            (1, 5, 0, 0, 2),
             (7, 12, 34, 56, 2),
         ):
             self.put(status=status, added=added, removed=removed, changed=changed)

@@ -206,9 +206,11 @@ def administrators_file(name: str) -> str | None:
     return None
 
 
-def defaults_for(options: Iterable[Option], words: Sequence[str]) -> Defaults:
+def defaults_for(
+    options: Iterable[Option], words: Sequence[str], passes_faults: bool = False
+) -> Defaults:
     """What the lines of the defaults give these options; nothing if the words of the command line
-    need no defaults."""
+    need no defaults. Lines with a fault can be passed over."""
     rows = {option.attribute: option for option in options}
     before = set(words[: end_of_options(words)])
     if before & {NO_DEFAULTS.name, "--help", "-h", "--version"}:
@@ -219,17 +221,19 @@ def defaults_for(options: Iterable[Option], words: Sequence[str]) -> Defaults:
     defaults: Defaults = {}
     parser = Parser(Asked, Help("", ""))
     parser.add_rows(rows)
+    passed_over = (Fault,) if passes_faults else ()
     for line, place in lines_of(path, "the defaults"):
-        option, line_words = option_in(line, place)
-        if option.attribute not in rows:
-            continue
-        try:
-            (value,) = vars(parser.parse_args(line_words)).values()
-        except Fault as fault:
-            raise Fault(fault.status, f"{place}: {fault.text}") from None
-        if option.is_repeated:
-            value = [*defaults.get(option.attribute, ()), *value]
-        defaults[option.attribute] = value
+        with suppress(*passed_over):
+            option, line_words = option_in(line, place)
+            if option.attribute not in rows:
+                continue
+            try:
+                (value,) = vars(parser.parse_args(line_words)).values()
+            except Fault as fault:
+                raise Fault(fault.status, f"{place}: {fault.text}") from None
+            if option.is_repeated:
+                value = [*defaults.get(option.attribute, ()), *value]
+            defaults[option.attribute] = value
     return defaults
 
 

@@ -168,6 +168,13 @@ def replace(
         file.commit([data])
 
 
+def remove(path: str) -> None:
+    """Removes a file, but no link, where nobody else could replace it."""
+    with open_directory(os.path.dirname(path) or ".") as directory:
+        if directory.is_safe() and not os.path.islink(path):
+            unlink(os.path.basename(path), directory.fd)
+
+
 def replace_by_copy(path: str, source: int) -> None:
     """The same by the bytes of an open file, a database. No directory is made for it."""
     with closing(Replacement(path, PRIVATE, "the database", makes_directory=False)) as file:

@@ -11,7 +11,7 @@ from typing import TYPE_CHECKING
 from aide_compare.base.ending import Fault, ReaderGone, write_blocks
 from aide_compare.base.escapes import encoded, shown
 from aide_compare.base.files import blocks_of, nameless, private_place
-from aide_compare.base.replacement import ANYBODY_READS
+from aide_compare.base.replacement import ANYBODY_READS, remove, replace
 from aide_compare.base.rights import become_owner, give_up
 from aide_compare.base.words import date_of, words_of_side
 from aide_compare.commands.compare_request import (
@@ -22,6 +22,7 @@ from aide_compare.commands.compare_request import (
     with_defaults,
     work_request,
 )
+from aide_compare.commands.defaults import machines_state
 from aide_compare.compare.comparison import Comparison
 from aide_compare.compare.outputs import (
     STDOUT,
@@ -45,16 +46,20 @@ if TYPE_CHECKING:
 
 
 def keep_failure(path: str | None, error: Exception) -> None:
-    """Writes into the state file that a run has failed before it could begin, as by a fault in the
-    defaults: otherwise the result of an earlier run would look like that of today."""
+    """Writes into the state file that a run has failed, as by a fault in the defaults: otherwise
+    the result of an earlier run would look like that of today. If it cannot be written, as on a
+    full disk, it is removed."""
     if path is None:
         return
     with suppress(Fault, OSError):
         become_owner(path)
         if os.path.lexists(path) and os.lstat(path).st_size:
             read_state(path)  # What is no state stays, such as a database.
-        place = file_output(path, "the state file", ANYBODY_READS)
-        place([failed_comparison(error).state().text()])
+        text = failed_comparison(error).state().text()
+        try:
+            replace(path, text, ANYBODY_READS, "the state file", makes_directory=False)
+        except Fault:
+            remove(path)
 
 
 class Row:
@@ -175,6 +180,7 @@ class ComparisonJob:
                     row.place(row.blocks)
         except FAILURES as error:
             if comparison.has_failed:
+                keep_failure(self.options.state, error)
                 raise
             comparison.fail(error)
             self._make(comparison)
@@ -279,6 +285,7 @@ def main(arguments: Sequence[str]) -> int:
         printer = Printer(own_request)
         job = printer.job()
     except Fault as fault:
-        keep_failure(own_request.state, fault)
+        state = own_request.state or machines_state(own_request.databases, arguments)
+        keep_failure(state, fault)
         raise
     return printer.status_of(job.carry_out())

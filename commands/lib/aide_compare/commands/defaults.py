@@ -14,6 +14,7 @@ from aide_compare.base.options import (
     COMPARISON_DEFAULTS,
     DATABASES,
     MACHINES_DEFAULTS,
+    STATE,
     TRUSTED,
 )
 from aide_compare.base.parser import Defaults, administrators_file, defaults_for
@@ -32,6 +33,15 @@ def machines_databases(words: Sequence[str]) -> Sequence[str]:
     if not named:
         raise Fault(Status.USAGE, "no databases are named", ADVICE)
     return list(named)
+
+
+def machines_state(databases: Sequence[str], words: Sequence[str]) -> str | None:
+    """The state file that the administrator's defaults name for this machine, though other lines
+    of them have a fault."""
+    with suppress(Fault):
+        if not databases:
+            return defaults_for((STATE,), words, passes_faults=True).get(STATE.attribute)
+    return None
 
 
 def is_same(path: str, named: str) -> bool:

@@ -18,6 +18,7 @@ from aide_compare.base.options import (
     DAYS,
     MAIL_DEFAULTS,
     MAIL_TIME,
+    STATE,
     TO,
     WEEKLY,
     field,
@@ -28,7 +29,7 @@ from aide_compare.base.replacement import Replacement
 from aide_compare.base.rights import become_owner, give_up
 from aide_compare.commands.compare import ComparisonJob, Row, keep_failure
 from aide_compare.commands.compare_request import CompareRequest, checked
-from aide_compare.commands.defaults import comparison_defaults
+from aide_compare.commands.defaults import comparison_defaults, machines_state
 from aide_compare.compare.comparison import Comparison
 from aide_compare.compare.state import State, read_state
 from aide_compare.compare.work import FAILURES, failed_comparison
@@ -101,7 +102,9 @@ def request_of(words: Sequence[str]) -> MailRequest:
         defaults.update(defaults_for(MAIL_DEFAULTS, words))
     except Fault as error:
         fault = error
-        if not compares:
+        if compares:
+            defaults.setdefault(STATE.attribute, machines_state(given["databases"], words))
+        else:
             say(error.text)
     request = filled(MailRequest, given, defaults)
     refuse_contradictions(request, given)
