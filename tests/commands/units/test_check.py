@@ -21,8 +21,7 @@ OPEN_HIGH = Counts(open=1, open_high=1)
 OK, WARNING, CRITICAL, UNKNOWN = range(4)
 ROWS: tuple[tuple[int, int, Counts | None, dict[str, str]], ...] = (
     (OK, 0, None, {}),
-    (WARNING, 1, None, {}),
-    (CRITICAL, 2, None, {}),
+    (CRITICAL, 1, None, {}),
     (CRITICAL, 7, None, {"warning": "9"}),
     (UNKNOWN, 8, SILENT, {}),
     (UNKNOWN, 18, None, {}),
@@ -63,5 +62,6 @@ class CheckTest(ModuleTest):
         with mock.patch.object(status_command, "tell") as told:
             self.gives(UNKNOWN, status_command.check, ["--state", "x" * 500])
             line = f"AIDE UNKNOWN: cannot open the state file {'x' * 500}"
-            self.assertEqual(told.call_args[0][0], line[: len("AIDE UNKNOWN: ") + 300])
+            cut = line[: len("AIDE UNKNOWN: ") + 300] + "..."
+            self.assertEqual(told.call_args[0][0], cut)
         self.assertEqual(status_command.request_of(["--no-defaults"]).state, DAILY)

@@ -14,7 +14,6 @@ from aide_compare.lines.change import Counts
 from aide_compare.show.result import result_numbers, result_text
 
 MAX_LINE = 300
-ONLY_ADDED = 1
 
 
 class Level(IntEnum):
@@ -34,7 +33,9 @@ class Answer(NamedTuple):
     numbers: str = ""
 
     def line(self) -> str:
-        line = guarded(self.text)[:MAX_LINE].replace("|", "!")  # A bar begins the numbers.
+        line = guarded(self.text).replace("|", "!")  # A bar begins the numbers.
+        if len(line) > MAX_LINE:
+            line = f"{line[:MAX_LINE]}..."
         if self.numbers:
             line += f"|{self.numbers}"
         return f"AIDE {self.level.name}: {line}"
@@ -58,7 +59,7 @@ def level_of(state: State, warning: AlarmLimit | None, critical: AlarmLimit | No
     if state.status > 7:
         return Level.UNKNOWN
     if counts is None:
-        return Level.WARNING if state.status == ONLY_ADDED else Level.CRITICAL
+        return Level.CRITICAL
     if is_reached(critical, counts, counts.open_high):
         return Level.CRITICAL
     if is_reached(warning, counts, counts.to_read):
