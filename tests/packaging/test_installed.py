@@ -144,6 +144,9 @@ class InstalledTest(InstallTest):
             pair = self.write("lib/aide-compare/daily/signed.db", "of another night")
             self.assertEqual(self.run_words([daily]), Answer(b"", b"", status))
             self.assertFalse(os.path.exists(pair))
+        shutil.rmtree(os.path.dirname(pair))
+        self.run_words(["sh", "-c", f"umask 077; {daily}"])
+        self.assertEqual(os.stat(os.path.dirname(pair)).st_mode & 0o777, 0o755)
         os.mkdir(pair)
         self.assertEqual(self.run_words([daily]).status, 1, "it cannot be removed")
         os.remove(tool)
@@ -151,7 +154,7 @@ class InstalledTest(InstallTest):
         lines = self.read(called).decode().splitlines()
         user = pwd.getpwuid(os.geteuid()).pw_name
         wanted = f"{tool} mail --user {user} --alarm-sent-is-success"
-        self.assertEqual(lines, [wanted] * 3, "what the jobs call")
+        self.assertEqual(lines, [wanted] * 4, "what the jobs call")
         with self.subTest("run-parts"):
             self.needs("run-parts")
             for name in ("aide-compare.cron.daily", "zz-aide-compare"):
