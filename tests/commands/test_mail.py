@@ -60,7 +60,8 @@ class TextsTest(MailTest):
             self.assertEqual(subject(message), SUBJECT + "failure (status %d)" % status)
             self.assertRegex(body(message), rb"\Aaide(-compare)?: ", new)
         self.write("etc/defaults", "--odd\n")
-        self.assertEqual(call(self, "old.db", "new.db").status, 15)
+        with open("/dev/full", "wb") as full:
+            self.assertEqual(call(self, "old.db", "new.db", stderr=full).status, 15)
         self.assertIn("this option cannot be a default: --odd", words_of(body(sent(self))))
         os.remove(self.path("etc/defaults"))
         addresses = ["--to", ""], ["--to", "a\nBcc: b"], ["--to", "-x"], ["--to", "é\x01"]

@@ -124,7 +124,8 @@ def message_of(
     unless the last run has not compared it either, or no state is kept."""
     state = comparison.state()
     if comparison.status == Status.USAGE:  # Who has typed it sees it at once.
-        write_all(2, encoded(told_of(comparison)))
+        with suppress(OSError):
+            write_all(2, encoded(told_of(comparison)))
     columns: list[str] = []
     if before is not None:
         columns = [name for name in state.skipped if name not in before]
