@@ -208,6 +208,10 @@ class QueueTest(MailTest):
             message = self.mail("--send-queue", "queue", status=0)
             self.assertEqual((subject(message), self.waiting()), (SUBJECT + COUNTS, []))
             self.mail("old.db", "new.db", *queue, status=0)
+        self.stub("sendmail", "sleep 1; echo >> taken")
+        both = [self.start(TOOL, "--send-queue", "queue") for _ in range(2)]
+        self.assertEqual([process.wait() for process in both], [0, 0])
+        self.assertEqual(self.read("taken"), b"\n", "one of two runs sends it")
 
     def test_odd_queue(self) -> None:
         """What is no mail, before one that is, is neither sent nor in its way."""

@@ -133,22 +133,25 @@ class HostsReport:
         """Yields the lines of the short text."""
         return map(as_line, short_lines(self.report))
 
-    def send(self, request: ReportRequest, address: str) -> None:
-        """Sends one mail about all hosts; if there is nothing to say, a heartbeat if one is due."""
-        title = headline(self.report.summary)
-        way = transport_for(title, request.mail_seconds)
-        if not self.is_alarm:
-            if request.weekly:
-                counts = self.report.summary.counts
-                subject = f"aide on {counted(counts.hosts, 'host')}: nothing to read"
-                text = clean(f"{counts.headline()}, {counts.others()}\n")
-                beat = partial(deliver, way, build(address, subject, text))
-                send_heartbeat(f"{request.store}/report.quiet", request.weekly, beat)
-            return
+    def message(self, request: ReportRequest, address: str) -> bytes:
+        """The mail about all hosts."""
         attached = None
         if request.has_page:
             attached = b"".join(page(self.report, MAX_MAILED_PAGE))
-        deliver(way, build(address, title, clean(b"".join(self.brief())), attached))
+        text = clean(b"".join(self.brief()))
+        return build(address, headline(self.report.summary), text, attached)
+
+    def send(self, request: ReportRequest, address: str, message: bytes) -> None:
+        """Sends the mail about all hosts; if there is nothing to say, a heartbeat if one is due."""
+        way = transport_for(headline(self.report.summary), request.mail_seconds)
+        if self.is_alarm:
+            deliver(way, message)
+        elif request.weekly:
+            counts = self.report.summary.counts
+            subject = f"aide on {counted(counts.hosts, 'host')}: nothing to read"
+            text = clean(f"{counts.headline()}, {counts.others()}\n")
+            beat = partial(deliver, way, build(address, subject, text))
+            send_heartbeat(f"{request.store}/report.quiet", request.weekly, beat)
 
     def parts(self, form: str) -> Iterable[bytes]:
         """The bytes of the report in a format."""
@@ -187,14 +190,18 @@ def send_failure(why: str, request: ReportRequest, address: str) -> None:
 
 def main(arguments: Sequence[str]) -> int:
     request = request_of(arguments)
+    address = request.address
+    message = b""
     try:
         report = HostsReport(hosts_of(request.hosts_file), request)
+        if address and report.is_alarm:
+            message = report.message(request, address)
     except Exception as error:
-        if request.address:
-            send_failure(why_of(error), request, request.address)
+        if address:
+            send_failure(why_of(error), request, address)
         raise
-    if request.address:
-        report.send(request, request.address)
+    if address:
+        report.send(request, address, message)
     elif report.is_alarm or not request.is_quiet:
         write_blocks(1, report.parts(request.format or "text"))
     return report.worst
