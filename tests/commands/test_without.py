@@ -263,8 +263,8 @@ class WithoutTest(CommandTest):
     def test_changed_list(self) -> None:
         """A list that is not as in the old database is reported, even if nothing differs."""
         text = b"/var/log/**\n"
-        path = os.fsencode(self.write("list", text))
-        os.symlink("list", self.path("link"))
+        path = os.fsencode(self.write("list:~", text))
+        os.symlink("list:~", self.path("link"))
         rows = [(b"/elsewhere", "sha256", b"0", False), (path, "sha256", b"0", False)]
         for name in ("sha256", "sha512"):
             for other in (b"", b"/etc/**\n"):
@@ -273,9 +273,12 @@ class WithoutTest(CommandTest):
         for file in (self.path("link"), self.write("etc/defaults", "--databases 1.db 2.db\n")):
             rows.append((os.fsencode(file), *rows[-1][1:]))
         for listed, name, digest, is_said in rows:
+            # AIDE writes more bytes with escapes than it has to.
+            written = list_database(listed.replace(b":~", b"%3A%7E"), name.encode(), digest)
+            behind = written.splitlines()[2].replace(digest, b"of-no-entry")
             for database in ("1.db", "2.db"):
-                self.write(database, list_database(listed, name.encode(), digest))
-            ways = [["link"], ["list"], [os.fsdecode(path), "--exclude", "/etc/**"]]
+                self.write(database, written + behind + b"\n")
+            ways = [["link"], ["list:~"], [os.fsdecode(path), "--exclude", "/etc/**"]]
             for words in ways if is_said and name == "sha512" else ways[:1]:
                 answer = self.call("aide-compare", "--exclude-from", *words, "1.db", "2.db")
                 is_due = is_said and (not listed.endswith(b"link") or "link" in words)

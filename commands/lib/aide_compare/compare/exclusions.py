@@ -10,15 +10,16 @@ import base64
 import os
 import re
 from collections.abc import Iterator, Mapping, Sequence
+from functools import partial
 from operator import methodcaller
 from os.path import abspath, realpath
 from typing import NamedTuple
 
-from aide_compare.base.database import ABSENT, PATH_COLUMN, fields_in
+from aide_compare.base.database import ABSENT, MAX_LINE, PATH_COLUMN, fields_in
 from aide_compare.base.ending import Fault, Status
 from aide_compare.base.escapes import shown
 from aide_compare.base.files import BLOCK, reopened, trusted_text
-from aide_compare.base.paths import escaped, unescaped
+from aide_compare.base.paths import unescaped
 from aide_compare.compare.unpack import Copy
 
 MAX_SHOWN = 200  # Characters of a line that are told.
@@ -27,6 +28,7 @@ OPTION = b"--without="
 MAX_EXCLUSIONS_BYTES = (1 << 17) - 1 - len(OPTION)
 WHAT = "the file of --exclude-from"
 COLUMNS = b"@@db_spec "
+END = b"@@end_db"
 # The columns of digests by which a file is looked up in a database.
 DIGESTS = (b"sha512", b"sha256", b"sha3_512", b"sha3_256")
 HAS_CHANGED = "which decides what is silent, has changed since the baseline was made"
@@ -69,17 +71,25 @@ class Exclusions(NamedTuple):
         AIDE writes the path first in the line of an entry."""
         if not self.files:
             return
-        starts = (COLUMNS, *(escaped(path) + b" " for path in self.files))
+        starts = (COLUMNS, END, *(plain_start(path) for path in self.files))
         columns: list[bytes] = []
         with open(reopened(old.fd, os.O_RDONLY), "rb", BLOCK) as database:
-            for line in filter(methodcaller("startswith", starts), database):
+            lines = iter(partial(database.readline, MAX_LINE + 2), b"")
+            for line in filter(methodcaller("startswith", starts), lines):
+                if line.startswith(END):
+                    return
                 if line.startswith(COLUMNS):
                     columns = fields_in(line)[1:]
                 elif columns[:1] == [PATH_COLUMN]:
                     entry = dict(zip(columns, fields_in(line)))
                     path = unescaped(entry[PATH_COLUMN])
-                    if not is_text_of(entry, self.files[path]):
+                    if path in self.files and not is_text_of(entry, self.files[path]):
                         yield f"{shown(path, MAX_SHOWN)}, {HAS_CHANGED}"
+
+
+def plain_start(path: bytes) -> bytes:
+    """The beginning of a path that no version of AIDE writes with escapes."""
+    return re.split(rb"[^/\w.-]", path, maxsplit=1)[0]
 
 
 def is_text_of(entry: Mapping[bytes, bytes], text: bytes) -> bool:
