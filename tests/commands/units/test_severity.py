@@ -91,6 +91,7 @@ RIGHTS: list[tuple[str, Side, Side, str]] = [
     ("a directory that all can write", entry(DIRECTORY), entry(0o40777), "high"),
     ("a sticky directory now", entry(DIRECTORY), entry(0o41777), "high"),
     ("a sticky directory that came", None, entry(0o41777), "medium"),
+    ("a directory that is sticky no more", entry(0o41777), entry(0o40777), "high"),
     ("a link with a list", None, entry(0o120777, acl=b"odd"), "medium"),
     ("root's file given away", entry(FILE), OF_ANNA, "high"),
     ("a file given to root", OF_ANNA, entry(FILE), "medium"),

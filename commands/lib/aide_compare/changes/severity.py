@@ -90,8 +90,9 @@ def comes_open(new: Rights) -> bool:
 
 
 def gains_writers(old: Side, new: Side) -> bool:
-    """Whether somebody may write now who could not before: everybody, or after root another user or
-    group. The mode of a link means nothing.
+    """Whether somebody may write now who could not before: everybody, also the names of others in a
+    directory that was sticky, or after root another user or group. The mode of a link means
+    nothing.
 
     What other users than root do with their own files counts only if everybody can write there.
     """
@@ -99,7 +100,8 @@ def gains_writers(old: Side, new: Side) -> bool:
         return False
     if old is None or has_other_type(old, new):
         return comes_open(new) or may_be_device_of_another(new)
-    if new.most & ALL_WRITE and not old.least & ALL_WRITE:
+    kept_names = bool(old.most & ~new.least & stat.S_ISVTX) and old.is_directory
+    if new.most & ALL_WRITE and (kept_names or not old.least & ALL_WRITE):
         return True
     if old.user not in (None, ROOT):
         return False
