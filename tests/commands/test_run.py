@@ -87,14 +87,15 @@ class RunTest(CommandTest):
     def test_no_output_is_read(self) -> None:
         """No file that is read is replaced, be it named by the command line or by the defaults."""
         self.write("etc/defaults", "--databases {0}/old.db {0}/new.db\n".format(self.root))
-        others = {"list": "/a\n", "aide.conf": "report_level=minimal\n"}
+        others = {"list": "/a\n", "aide.conf": "report_level=minimal\n", "etc/without": "/a\n"}
         for name, text in others.items():
             self.write(name, text)
-        named = {"": "new.db", "old.db new.db": "new.db"}
-        named |= {"--exclude-from list": "list", "--config ./aide.conf old.db new.db": "aide.conf"}
+        named = [("", "new.db"), ("old.db new.db", "new.db"), ("", "etc/without")]
+        named += [("", "etc/defaults"), ("--exclude-from list", "list")]
+        named += [("--config ./aide.conf old.db new.db", "aide.conf")]
         said = b"an output is one of the files read, which would be replaced"
         for option in ("--json", "--page", "--state"):
-            for words, name in named.items():
+            for words, name in named:
                 self.refused(15, said, "aide-compare", option, f"./{name}", *words.split())
         self.assertEqual(self.read("new.db"), NEW)
         for name, text in others.items():

@@ -26,7 +26,7 @@ from aide_compare.base.options import (
     field,
     option,
 )
-from aide_compare.base.parser import Given, Help, Parser, filled
+from aide_compare.base.parser import DIRECTORY, Given, Help, Parser, filled
 from aide_compare.commands.defaults import ADVICE, comparison_defaults, exclusions_of
 from aide_compare.compare.comparison import ComparisonInput
 from aide_compare.compare.configuration import NONE
@@ -157,7 +157,8 @@ def work_request(request: CompareRequest) -> ComparisonInput:
         raise Fault(Status.USAGE, "two outputs have one place, such as standard output")
     old, new = request.databases
     others = (*request.trusted, *request.exclude_from, request.configuration or NONE)
-    read = {os.path.realpath(path) for path in (old, new, *others)}
+    usual = (f"{DIRECTORY}/defaults", f"{DIRECTORY}/without")
+    read = {os.path.realpath(path) for path in (old, new, *others, *usual)}
     if read.intersection(request.places):
         raise Fault(Status.USAGE, "an output is one of the files read, which would be replaced")
     return ComparisonInput(
