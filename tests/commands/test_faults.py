@@ -83,11 +83,15 @@ class FaultsTest(CommandTest):
             words = (TOOL, "old.db", "large.db")
             self.refused(18, told, *words, state="state", environment={"TMPDIR": small})
             self.assertEqual(os.listdir(small), [], "nothing is left on a full disk")
-            shutil.copy(self.path("state"), small)
-            with contextlib.suppress(OSError), open(os.path.join(small, "filler"), "wb") as filler:
-                filler.write(b"x" * 65536)
-            answer = self.call(TOOL, "old.db", "new.db", "--state", "small/state")
-            self.assertEqual((answer.status, os.listdir(small)), (18, ["filler"]), answer)
+            self.write("cut.db", NEW[:-9])
+            causes: list[bytes] = [b"cannot write the state file"]
+            for new in ("new.db", "cut.db"):
+                with contextlib.suppress(OSError), open(f"{small}/filler", "wb") as filler:
+                    shutil.copy(self.path("state"), small)
+                    filler.write(b"x" * 65536)
+                self.refused(18, causes, "aide-compare -q", "old.db", new, "--state=small/state")
+                self.assertEqual(os.listdir(small), ["filler"], "no state of an older run")
+                causes = [b"no @@end_db", *causes]
 
     def test_no_program(self) -> None:
         """The program is found beside the command only."""
@@ -167,7 +171,9 @@ class FaultsTest(CommandTest):
 
     def test_signals(self) -> None:
         """Signals while the program runs: the command ends by the signal, at once, and leaves
-        nothing, also after SIGKILL."""
+        nothing, also after SIGKILL. A caller may ignore that his children end."""
+        deaf = "signal.signal(signal.SIGCHLD, signal.SIG_IGN)"
+        self.answered(7, None, DIFFER, TOOL, "old.db", "new.db", before=deaf)
         self.put_away(self.program)
         nap = "%d.%d" % (300 + os.getpid() % 100, os.getpid())
         started = self.path("started")

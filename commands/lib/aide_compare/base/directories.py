@@ -131,7 +131,7 @@ def walked(path: str | bytes, make: bool = False) -> tuple[Directory, int | None
     name = os.fsdecode(path)
     if "\0" in name or not name:
         raise failure(errno.ENOENT)
-    pieces = _pieces(os.path.join(os.getcwd(), name))
+    pieces = _pieces(name if name.startswith("/") else os.path.join(os.getcwd(), name))
     directory = Directory()
     links = 0
     try:

@@ -194,6 +194,7 @@ def _run(main: Main) -> int:
     if signal.getsignal(signal.SIGINT) is signal.default_int_handler:
         # ^C ends the command by its signal, without a traceback.
         signal.signal(signal.SIGINT, signal.SIG_DFL)
+    signal.signal(signal.SIGCHLD, signal.SIG_DFL)  # What is ignored stays so in a program.
     status = main(sys.argv[1:])
     for stream in (sys.stdout, sys.stderr):
         if stream is not None:

@@ -13,6 +13,7 @@ from aide_compare.base.escapes import shown
 from aide_compare.base.files import given_descriptor
 
 MAX_NAME = 100
+NOGROUP = 65534
 
 
 def entry_of(uid: int) -> pwd.struct_passwd:
@@ -21,7 +22,7 @@ def entry_of(uid: int) -> pwd.struct_passwd:
     try:
         return pwd.getpwuid(uid)
     except KeyError:
-        return pwd.struct_passwd((str(uid), "", uid, uid, "", "/", ""))
+        return pwd.struct_passwd((str(uid), "", uid, NOGROUP, "", "/", ""))
 
 
 def name_of(uid: int) -> str:

@@ -173,18 +173,21 @@ class ComparisonJob:
 
     def _put(self, comparison: Comparison) -> None:
         """Hands the outputs to their places, in their order. If that is not possible, nothing was
-        compared."""
-        try:
-            for row in self.rows:
+        compared, and each place that still can be written has the cause."""
+        failed = None
+        for row in self.rows:
+            try:
                 if row.of_failure or not comparison.has_failed:
                     row.place(row.blocks)
-        except FAILURES as error:
-            if comparison.has_failed:
-                keep_failure(self.options.state, error)
-                raise
-            comparison.fail(error)
-            self._make(comparison)
-            self._put(comparison)
+            except FAILURES as error:
+                if not comparison.has_failed:
+                    comparison.fail(error)
+                    self._make(comparison)
+                    return self._put(comparison)
+                failed = failed or error
+        if failed:
+            keep_failure(self.options.state, failed)
+            raise failed
 
 
 NO_LIST = "the report does not use the list: it contains what is left out, and AIDE's status counts"
