@@ -137,7 +137,7 @@ class HostsAddTest(CommandTest):
         self.assertLessEqual(max(map(len, before.split("\n"))), 80, before)
         self.assertEqual(files(self), WATCHED)
         self.assertEqual(self.read("known_hosts"), b"www KEY\n", "ssh has asked once")
-        self.refuses(24, "has a baseline already", "www")
+        self.refuses(24, "not in the file of hosts, write its name there", "www")
         shutil.rmtree(self.path("store/hosts/www"))
         asked = add(self, "www", "YES\n")
         self.assertEqual((asked.status, files(self)["etc-hosts"]), (0, "www\n"), asked)
@@ -201,6 +201,30 @@ class HostsAddTest(CommandTest):
         slow = "def refuse_unsound(_):\n    __import__('time').sleep(60)\n"
         self.after_import("commands.hosts_add", slow)
         self.refuses(18, "db1 took more than 4 seconds", "db1", "--time=4s")
+
+    def test_at_once(self) -> None:
+        """Of commands that change the file of hosts at once, each keeps what the others wrote, and
+        waits for a lock, but not for ever."""
+        late = "replace = lambda *words, **more: time.sleep(0.7) or real(*words, **more)\n"
+        self.after_import("hosts.hosts_file", "import time\nreal = replace\n" + late)
+        file = self.write("etc-hosts", "gone\n")
+        digest = ("--sha256", sha256(OLD))
+        runs = []
+        for command, host in (("remove", "gone"), ("add", "www"), ("add", "db1")):
+            self.fleet.put(host, OLD, None)
+            words = (*digest, host) if command == "add" else (host,)
+            words = ("--hosts-file", file, "--store", self.path("store"), *words)
+            runs.append(self.start(f"aide-compare hosts {command}", *words))
+        for run in runs:
+            self.assertIn(b" watched", run.communicate(timeout=60)[0], run.args)
+        self.assertEqual(sorted(self.read(file).split()), [b"db1", b"www"])
+        self.set_names("base.files", SECONDS_FOR_LOCK=0)
+        descriptor = os.open(self.root, os.O_RDONLY)
+        self.addCleanup(os.close, descriptor)
+        fcntl.flock(descriptor, fcntl.LOCK_EX)
+        told = "its directory: another process has locked it for 0 seconds"
+        self.fleet.put("db2", OLD, None)
+        self.refuses(18, told, "db2", *digest)
 
     def test_faults(self) -> None:
         """What cannot be fetched or is no database is not asked about."""

@@ -16,7 +16,7 @@ from unittest import mock
 
 from tests.commands.units.calls import OTHER, ModuleTest, in_child
 
-from aide_compare.base import replacement
+from aide_compare.base import files, replacement
 from aide_compare.base.files import in_memory
 from aide_compare.commands import accept
 from aide_compare.compare import baseline
@@ -130,7 +130,7 @@ class BaselineTest(ModuleTest):
         self.fails(15, "name of a file: -", Baseline, "-")
 
     def test_lock(self) -> None:
-        with mock.patch.object(baseline, "SECONDS_FOR_LOCK", 0), opened(self.base):
+        with mock.patch.object(files, "SECONDS_FOR_LOCK", 0), opened(self.base):
             self.fails(18, "locked it for 0 seconds", Baseline, self.base)
 
     def test_lease(self) -> None:

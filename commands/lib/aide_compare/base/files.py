@@ -20,6 +20,7 @@ BLOCK = 1 << 18
 MAX_TRUSTED_LINES = 10000
 MAX_TRUSTED_BYTES = 1 << 22
 TEMPORARY = ".aide-compare-"
+SECONDS_FOR_LOCK = 60
 PRIVATE = 0o600
 # Where a caller's open files have names.
 OPENED = ("/dev/fd/", "/proc/self/fd/")
@@ -239,3 +240,9 @@ def is_locked(descriptor: int, deadline: float, how: int = fcntl.LOCK_EX) -> boo
             if time.monotonic() >= deadline:
                 return False
             time.sleep(0.02)
+
+
+def lock(descriptor: int) -> None:
+    """Locks a directory. It waits for another run, but not for ever."""
+    if not is_locked(descriptor, time.monotonic() + SECONDS_FOR_LOCK):
+        raise failure(errno.EBUSY, f"another process has locked it for {SECONDS_FOR_LOCK} seconds")

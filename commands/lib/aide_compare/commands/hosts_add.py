@@ -79,7 +79,9 @@ def add(request: AddRequest, host: str) -> int:
     lock, after a signal. A baseline that is there already is never replaced."""
     directory = HostDirectory(request.store, host, request.seconds)
     if directory.has(BASELINE):
-        raise directory.fault("has a baseline already; nothing was accepted", Status.DATABASE)
+        text = "has a baseline already; nothing was accepted. If it is not in the file of hosts,"
+        text += f" write its name there, or begin anew: aide-compare hosts remove {host}"
+        raise directory.fault(text, Status.DATABASE)
     is_new = directory.is_new()
     try:
         if not request.digest:

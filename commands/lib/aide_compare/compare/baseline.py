@@ -5,21 +5,19 @@ from __future__ import annotations
 import errno
 import os
 import stat
-import time
 from contextlib import suppress
 
 from aide_compare.base.directories import ANYBODY, LISTING, PIECE, Directory, closed_after, failure
 from aide_compare.base.directories import open_directory
 from aide_compare.base.ending import DeviceFault, Fault, OSErrorAsFault, Status, why_of
 from aide_compare.base.escapes import shown
-from aide_compare.base.files import copy_file, is_locked, new_file, refuse_other_kinds, reopened
+from aide_compare.base.files import copy_file, lock, new_file, refuse_other_kinds, reopened
 from aide_compare.base.files import unlink
 from aide_compare.base.replacement import exchange, renameat2
 from aide_compare.base.rights import become, entry_of
 
 FILE_MODES = 0o666
 FIRST_MODE = 0o600
-SECONDS_FOR_LOCK = 60
 CHANGED = "another process has changed it meanwhile"
 
 
@@ -76,18 +74,12 @@ class Baseline:
             user = _user_for(directory)
             with OSErrorAsFault(f"{self.words}: its directory"):
                 self.directory = os.open(".", LISTING, dir_fd=directory.fd)
-                self._lock()
+                lock(self.directory)
             self.former = self._former()
             self._readable = self._opened_former()
         if user is not None:
             renameat2()
             become(entry_of(user))
-
-    def _lock(self) -> None:
-        """Waits for another run, but not for ever."""
-        if not is_locked(self.directory, time.monotonic() + SECONDS_FOR_LOCK):
-            why = f"another process has locked it for {SECONDS_FOR_LOCK} seconds"
-            raise failure(errno.EBUSY, why)
 
     def _former(self) -> Former | None:
         with suppress(FileNotFoundError):

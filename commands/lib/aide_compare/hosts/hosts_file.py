@@ -1,9 +1,14 @@
 """The file of hosts: the name of a watched host in each line."""
 from __future__ import annotations
 
-from aide_compare.base.ending import DeviceFault
+import os
+from collections.abc import Iterator
+from contextlib import contextmanager
+
+from aide_compare.base.directories import LISTING, closed_after, open_directory
+from aide_compare.base.ending import DeviceFault, OSErrorAsFault
 from aide_compare.base.escapes import shown
-from aide_compare.base.files import MAX_TRUSTED_BYTES, is_missing, read_whole, trusted_text
+from aide_compare.base.files import MAX_TRUSTED_BYTES, is_missing, lock, read_whole, trusted_text
 from aide_compare.base.replacement import replace
 
 WHAT = "the file of hosts"
@@ -33,19 +38,34 @@ def lines_without(host: str, path: str) -> tuple[list[bytes], bool]:
     return kept, kept != lines
 
 
+@contextmanager
+def locked(path: str) -> Iterator[None]:
+    """A file that no other run changes meanwhile: its directory is locked."""
+    place = os.path.dirname(path) or "."
+    words = f"cannot write {WHAT} {shown(path)}: its directory"
+    with open_directory(place, make=True) as directory, OSErrorAsFault(words):
+        with closed_after(os.open(".", LISTING, dir_fd=directory.fd)) as descriptor:
+            lock(descriptor)
+            yield
+
+
 def add_host(host: str, path: str) -> None:
     """Adds a host at the end of a file that does not have it. The file is made if it is missing."""
-    lines, is_there = lines_without(host, path)
-    if not is_there:
-        if lines[-1]:
-            lines.append(b"")
-        lines[-1:] = [host.encode(), b""]
-        replace(path, b"\n".join(lines), what=WHAT)
+    with locked(path):
+        lines, is_there = lines_without(host, path)
+        if not is_there:
+            if lines[-1]:
+                lines.append(b"")
+            lines[-1:] = [host.encode(), b""]
+            replace(path, b"\n".join(lines), what=WHAT)
 
 
 def remove_host(host: str, path: str) -> bool:
     """Takes a host out of a file. Whether it was there."""
-    lines, is_there = lines_without(host, path)
-    if is_there:
-        replace(path, b"\n".join(lines), what=WHAT)
+    if is_missing(path):
+        return False
+    with locked(path):
+        lines, is_there = lines_without(host, path)
+        if is_there:
+            replace(path, b"\n".join(lines), what=WHAT)
     return is_there
