@@ -38,7 +38,7 @@ case $1 in
     asking) read -r answer < /dev/tty; exit 1 ;;
     denied) echo "root@denied: Permission denied (publickey)." >&2; exit 255 ;;
     coloured) printf 'a\\033[31mb\\302\\233c\\n' >&2; exit 1 ;;
-    killer) kill -9 $PPID; exit 1 ;;
+    killer*) kill -9 $PPID; exit 1 ;;
 esac
 exec cat "ROOT/remote/$1"'''
 
@@ -210,7 +210,7 @@ class FleetTest(CommandTest):
             self.assertTrue(until(lambda: not is_alive(ssh)), number)
 
     def test_told(self) -> None:
-        """What people see of a host's bytes, and a process that ends without an answer."""
+        """What people see of a host's bytes, and processes that end without an answer."""
         failed = "Host key verification failed. (ssh ended with 255); "
         unknown = failed + "is its key in known_hosts?"
         changed = failed + "its key differs from the one in known_hosts"
@@ -221,10 +221,15 @@ class FleetTest(CommandTest):
             said = self.fleet.compare_one(host)
             self.fleet.not_compared(told, said, host)
             self.assertTrue(said.output_text.split("\n")[0].endswith(told), said)
-        self.fleet.put("killer", OLD)
-        said = self.fleet.compare(self.fleet.list_hosts("good1", "killer", "good2"))
-        self.fleet.not_compared("ended without an answer", said, "killer")
-        self.assertEqual(len(said.output_text.splitlines()), 4, said)
+        killers = [f"killer{number}" for number in range(16)]
+        for host in killers:
+            self.fleet.put(host, OLD)
+        hosts = self.fleet.list_hosts("good1", *killers, "good2")
+        few = ["sh", "-c", 'ulimit -n 32; exec "$@"', "sh"]
+        said = self.fleet.call(COMPARE, "--jobs=2", hosts, before=few)
+        self.fleet.not_compared("ended without an answer", said, "killer9")
+        self.assertIn(f"good2 {DIFFERS}\n", said.output_text, "files are closed after each")
+        self.assertEqual(len(said.output_text.splitlines()), 19, said)
         self.after_import("hosts.fetching", "def transfer(*_):\n    raise MemoryError\n")
         self.fleet.not_compared("out of memory", self.fleet.compare_one("good1"), "good1", 22)
 

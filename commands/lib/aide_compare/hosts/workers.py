@@ -8,7 +8,7 @@ import select
 import signal
 import time
 from collections.abc import Iterator, Sequence
-from contextlib import suppress
+from contextlib import closing, suppress
 from functools import partial
 from typing import NamedTuple
 
@@ -94,7 +94,8 @@ class Worker:
             text = f"was not compared within {self.request.seconds} seconds"
         # The state says so. Another run may have the lock by now, and writes a state of its own.
         with suppress(Fault, OSError):
-            HostDirectory(self.request.store, self.host, PAUSE).not_compared(f"{self.host}: {text}")
+            with closing(HostDirectory(self.request.store, self.host, PAUSE)) as directory:
+                directory.not_compared(f"{self.host}: {text}")
         return HostResult(self.host, Status.DEVICE, text)
 
 
