@@ -233,6 +233,16 @@ class FleetTest(CommandTest):
         self.after_import("hosts.fetching", "def transfer(*_):\n    raise MemoryError\n")
         self.fleet.not_compared("out of memory", self.fleet.compare_one("good1"), "good1", 22)
 
+    def test_unread(self) -> None:
+        """Where no line can be printed, and none of the canary, all hosts are compared."""
+        hosts = self.fleet.list_hosts("denied", *PAIR)
+        full = ["sh", "-c", 'exec "$@" > /dev/full', "sh"]
+        said = self.fleet.call(COMPARE, "--canary=denied", hosts, before=full)
+        told = said.error_text.count("cannot write standard output")
+        self.assertEqual((said.status, told), (18, 1), said)
+        for host in PAIR:
+            self.assertIn("\nstatus=7\n", self.fleet.state(host), host)
+
     def test_wrong(self) -> None:
         """What is no name of a host makes no file."""
         for name in ("..", "a..b", "-x", "a/b", "a b", "x\ny", "é", "a" * 201, "a\n"):

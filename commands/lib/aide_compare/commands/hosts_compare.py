@@ -34,8 +34,18 @@ list of what is left out is; 18 if the command itself fails.""",
 EMPTY = b"@@begin_db\n@@db_spec name\n@@end_db\n"
 
 
+def tell_or_keep(failures: list[Fault], line: str) -> None:
+    """Prints a line. After a failure, which is kept, none is printed, and the hosts are compared
+    all the same."""
+    try:
+        if not failures:
+            tell(line)
+    except Fault as failure:
+        failures.append(failure)
+
+
 def results_beside(
-    canary: str, hosts: Sequence[str], request: HostsRequest
+    canary: str, hosts: Sequence[str], request: HostsRequest, failures: list[Fault]
 ) -> Iterator[HostResult]:
     """The results of all hosts beside the canary, whose own result comes first. Without its pair
     the others are compared all the same, and that is said before them."""
@@ -51,7 +61,7 @@ def results_beside(
     except (Fault, OSError) as error:
         why = without_name(canary, fault_of(error).text)
         note = f"canary {canary} was not used, so the others were compared without it: {why}"
-        tell(guarded(note))
+        tell_or_keep(failures, guarded(note))
         with suppress(Fault):  # On a full disk the others are compared all the same.
             keep_run(request.store, Run("", note))
     yield from results([host for host in hosts if host != canary], beside)
@@ -59,8 +69,9 @@ def results_beside(
 
 def compare_all(request: HostsRequest, hosts: Sequence[str]) -> int:
     """Prints a line for each host and the summary; returns the greatest status."""
+    failures: list[Fault] = []
     if request.canary:
-        all_results = results_beside(request.canary, hosts, request)
+        all_results = results_beside(request.canary, hosts, request, failures)
     else:
         all_results = results(hosts, request)
     found = []
@@ -69,7 +80,9 @@ def compare_all(request: HostsRequest, hosts: Sequence[str]) -> int:
         found.append((result.status, result.has_changes and not result.status))
         worst = max(worst, result.status)
         if result.status or not request.is_quiet:
-            tell(result.line())
+            tell_or_keep(failures, result.line())
+    if failures:
+        raise failures[0]
     if worst or not request.is_quiet:
         counts = HostCounts.of(found)
         tell(f"{counts.headline()}, {counts.others()}")
