@@ -149,6 +149,10 @@ class InstallingTest(InstallTest):
         outside = self.write("outside", "another's file\n")
         with open(os.path.join(folder, "usr/local", MANIFEST), "a") as file:
             file.write("file /usr/local/../../../outside\nfile /etc/kept\n")
+        self.write("full/grep", "#!/bin/sh\nexit 2\n", 0o755)  # As on a full disk.
+        full, whole = {"PATH": self.path("full") + ":" + os.environ["PATH"]}, tree(folder)
+        done = self.install("--destdir", folder, "--uninstall", env={**os.environ, **full})
+        self.assertEqual((done.status, tree(folder) == whole), (1, True), done)
         done = self.install("--destdir", folder, "--uninstall")
         self.assertEqual((done.status, done.error_text), (0, ""), done)
         left = tree(folder)
