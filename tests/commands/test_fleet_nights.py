@@ -232,21 +232,28 @@ class ListedOnceTest(CommandTest):
         found = self.opened({"www": (good, only), "db1": db1})
         self.assertEqual(found, {"www": "/bin/su"}, "listed on the canary")
 
+    def mailed(self, fleet: Fleet, path: str = "hosts") -> str:
+        """What the mail about some hosts says first; nothing if there is none."""
+        self.stub("sendmail", f'cat > "{self.root}/mail"')
+        self.write("mail", "")
+        said = fleet.call("aide-compare hosts report", "--to", "root", self.path(path))
+        self.assertEqual(said.error_text, "")
+        head = self.read("mail").decode().partition("\n\n")[2].partition("\n\n")[0]
+        return " ".join(head.split())
+
     def test_again(self) -> None:
         """A report says first, and by mail, that what was silent beside a canary is listed nowhere:
-        the canary was compared again, or is no host of the report."""
+        the canary was compared again, too long ago, or is no host of the report."""
         fleet = Fleet(self)
         fleet.send(NAMES)
         self.assertEqual(fleet.night(), {CANARY: 4})
-        self.assertNotIn("listed nowhere", fleet.report().output_text)
-        self.stub("sendmail", f'cat > "{self.root}/mail"')
-        others = self.write("others", "".join(f"{host}\n" for host in NAMES if host != CANARY))
-        said = fleet.call("aide-compare hosts report", "--to", "root", others)
-        self.assertIn("is not listed here", self.read("mail").decode().split("\n\n")[1])
+        warning = f"Canary {CANARY}: what was silent beside it is not listed here"
+        self.assertNotIn(warning, self.mailed(fleet))
+        self.write("others", "".join(f"{host}\n" for host in NAMES if host != CANARY))
+        self.assertIn(warning, self.mailed(fleet, "others"))
+        state = f"store/states/{CANARY}"
+        self.write(state, re.sub(b'"time": [0-9]+', b'"time": 1', self.read(state)))
+        self.assertIn(warning, self.mailed(fleet), "too old")
         fleet.send(())
         fleet.compare_one(CANARY)
-        os.remove(self.path("mail"))
-        said = fleet.report("--to", "root")
-        self.assertEqual(said.error_text, "")
-        second = self.read("mail").decode().split("\n\n")[1].split("\n")[1]
-        self.assertTrue(second.startswith(f"Canary {CANARY}: what was silent beside it"), second)
+        self.assertIn(warning, self.mailed(fleet), "compared again")

@@ -37,8 +37,8 @@ MAX_TEXT = 60000
 MAX_NOTE = 5000
 SILENT = "is silent on the other hosts"
 UNLISTED = (
-    "what was silent beside it is not listed here, since it was compared again or is no host of"
-    " this report; compare and report all hosts again"
+    "what was silent beside it is not listed here, since it was compared again or not at all, or is"
+    " no host of this report; compare and report all hosts again"
 )
 # So long after its report the pair of an accepted canary serves hosts that lag behind.
 MAX_LAG = 7 * 86400
@@ -161,7 +161,7 @@ def is_in_report(run: Run, hosts: Sequence[Host]) -> bool:
         return True
     for host in hosts:
         if host.name == run.host and host.state and host.state.new_sha256 == run.sha256:
-            return not host.differs or host.report == WHOLE
+            return host.status == 0 or host.report == WHOLE
     return False
 
 
