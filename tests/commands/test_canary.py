@@ -13,7 +13,10 @@ from tests.commands.sandbox import CommandTest
 from tests.commands.test_hosts_report import Hosts
 from tests.commands.viewers.pages import data_in
 
+from aide_compare.compare.state import State
 from aide_compare.hosts import canary
+from aide_compare.hosts.report_values import Host
+from aide_compare.lines.change import Counts
 
 ONE, TWO, EVIL = b"one", b"two, of the upgraded package", b"EVIL"
 NOTE = "canary www1: what changed there in the same way is silent on the other hosts"
@@ -91,9 +94,9 @@ class CanaryTest(CommandTest):
         lines = self.compared(hosts, *words, "--canary", "www1")
         self.assertTrue(lines[1].startswith(note), lines)
         text = hosts.report().output_text
-        self.assertTrue(text.startswith("C" + note[1:]), text)
+        self.assertTrue(text.startswith(f"In the last run {note}"), text)
         brief = hosts.report("--format=brief").output_text
-        self.assertTrue(" ".join(brief.split()).startswith("C" + note[1:]), brief)
+        self.assertTrue(" ".join(brief.split()).startswith(f"In the last run {note}"), brief)
         self.assertIn("\nopen=2\n", hosts.state("www2"))
 
     def test_failed(self) -> None:
@@ -112,13 +115,13 @@ class CanaryTest(CommandTest):
         self.check_failed(hosts, late, "--same-for", "90m")
 
     def test_no_note(self) -> None:
-        """If the note of the canary cannot be written, the others are compared without it."""
+        """A note that cannot be replaced keeps no host from being compared, and reports say so."""
         hosts = self.fleet()
         os.mkdir(self.path("store/canary"))
         lines = self.compared(hosts, "--canary", "www1")
-        cause = "compared without it: the note of the canary is a directory"
-        self.assertIn(cause, lines[1])
-        self.assertIn(f"www2 4 {FIVE}2 open (2 high) of 5 changes", lines)
+        self.assertIn(f"www2 0 {FIVE}5 changes, all silent", lines)
+        text = hosts.report().output_text
+        self.assertRegex(text, f"Cannot open the note of the canary .*: it is a directory\n{USED}")
 
     def test_no_host(self) -> None:
         """A canary that is not in the list is refused, and what is no name."""
@@ -179,23 +182,34 @@ class CanaryTest(CommandTest):
 
 class NotesTest(ModuleTest):
     def test_notes(self) -> None:
-        """A note is the owner's alone and has an end, and one that cannot be read is told."""
+        """A note is the owner's alone and has an end. One that cannot be read, or is none, is told
+        and mailed, until the next run."""
         for name in ("one", "two", "three"):
             os.mkdir(self.path(name))
-        store = self.path("one")
-        canary.keep_run(store, canary.Run("", "a\n" + "\u00e9" * 20000))
+        canary.keep_note(self.path("one"), "canary a\n" + "\u00e9" * 20000)
         found = os.stat(self.path("one/canary"))
         self.assertEqual(stat.S_IMODE(found.st_mode), 0o600)
         self.assertLess(found.st_size, 40000)
         os.mkfifo(self.path("two/canary"))
         self.write("three/canary", "{}")
-        for name, wanted in (
-            ("one", "a\\012\u00e9"),
-            ("two", "it is a FIFO"),
-            ("three", "is no note of a canary"),
+        for name, wanted, is_alarm in (
+            ("one", "canary a\\012\u00e9", False),
+            ("two", "it is a FIFO", True),
+            ("three", "is damaged", True),
         ):
-            (line,), _ = canary.notes_of(self.path(name), [])
+            (line,), is_told = canary.notes_of(self.path(name), [])
             self.assertIn(wanted, line)
-            canary.keep_run(self.path(name), None)  # Nothing fails without a canary.
-        canary.keep_run(store, None)
-        self.assertEqual(os.listdir(store), [])
+            self.assertEqual(is_told, is_alarm, line)
+            canary.keep_note(self.path(name), "")
+            self.assertEqual(os.listdir(self.path(name)), [])
+
+    def test_circle(self) -> None:
+        """Hosts that are silent beside each other, as by two runs at once, list nothing."""
+        hosts = []
+        for name, other in (("a", "b"), ("b", "a")):
+            state = State(4, 1, 0, 0, 1, new_sha256=name * 64, standings=Counts(trusted=1))
+            place = f"/store/hosts/{other}/aide.db.new"
+            state = state._replace(trusted_new=place, trusted_new_sha256=other * 64)
+            hosts.append(Host(name, 0, "", state))
+        lines, is_alarm = canary.notes_of(self.path("store"), hosts)
+        self.assertEqual([canary.UNLISTED in each for each in lines], [is_alarm, True])

@@ -257,3 +257,21 @@ class ListedOnceTest(CommandTest):
         fleet.send(())
         fleet.compare_one(CANARY)
         self.assertIn(warning, self.mailed(fleet), "compared again")
+
+    def test_later_runs(self) -> None:
+        """The warning stays whatever later runs over other hosts do: one whose canary fails, one
+        with another canary, one without any."""
+        fleet = Fleet(self)
+        fleet.send(NAMES)
+        self.assertEqual(fleet.night(), {CANARY: 4})
+        warning = f"Canary {CANARY}: what was silent beside it is not listed here"
+        part = self.write("part", f"{CANARY}\nwww4\n")
+        self.write(f"down/{CANARY}", "")
+        fleet.compare("--canary", CANARY, part)
+        self.assertRegex(self.mailed(fleet), f"^{warning}.* In the last run canary {CANARY} was")
+        os.remove(self.path(f"down/{CANARY}"))
+        fleet.send(())
+        fleet.compare("--canary", "www4", part)
+        self.assertIn(warning, self.mailed(fleet), "another canary")
+        fleet.compare(part)
+        self.assertIn(warning, self.mailed(fleet), "no canary, and nothing to read")

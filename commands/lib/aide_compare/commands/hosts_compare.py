@@ -2,7 +2,6 @@
 from __future__ import annotations
 
 from collections.abc import Iterator, Sequence
-from contextlib import suppress
 
 from aide_compare.base.ending import Fault, Status, fault_of, tell
 from aide_compare.base.escapes import guarded
@@ -14,7 +13,7 @@ from aide_compare.compare.comparison import ComparisonInput
 from aide_compare.compare.exclusions import Exclusions
 from aide_compare.compare.unpack import Copy
 from aide_compare.compare.work import compare
-from aide_compare.hosts.canary import Run, keep_run, trusted_pair
+from aide_compare.hosts.canary import keep_note, trusted_pair
 from aide_compare.hosts.host_comparison import MAX_JUDGED, MAX_KEPT, HostsRequest
 from aide_compare.hosts.hosts_file import hosts_of
 from aide_compare.hosts.report_values import HostCounts
@@ -52,18 +51,16 @@ def results_beside(
     (first,) = results([canary], request.but(max_kept=MAX_JUDGED))
     yield first
     beside = request
+    note = ""
     try:
         if first.status > 7:
             raise Fault(first.status, first.text)
-        run, copies = trusted_pair(canary, request)
-        keep_run(request.store, run)
-        beside = request.but(trusted=copies)
+        beside = request.but(trusted=trusted_pair(canary, request))
     except (Fault, OSError) as error:
         why = without_name(canary, fault_of(error).text)
         note = f"canary {canary} was not used, so the others were compared without it: {why}"
         tell_or_keep(failures, guarded(note))
-        with suppress(Fault):  # On a full disk the others are compared all the same.
-            keep_run(request.store, Run("", note))
+    keep_note(request.store, note)
     yield from results([host for host in hosts if host != canary], beside)
 
 
@@ -115,7 +112,7 @@ def hosts_to_compare(request: HostsRequest) -> list[str]:
     is silent beside it."""
     names = hosts_of(request.hosts_file)
     if not request.canary:
-        keep_run(request.store, None)
+        keep_note(request.store, "")
     elif request.canary not in names:
         raise Fault(Status.USAGE, f"the canary {request.canary} is not among the hosts of the file")
     return names

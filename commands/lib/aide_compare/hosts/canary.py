@@ -9,16 +9,16 @@ from __future__ import annotations
 import json
 import os
 import time
-from collections.abc import Mapping, Sequence
+from collections.abc import Mapping, Sequence, Set
 from contextlib import closing, suppress
 from hashlib import sha256
 from typing import NamedTuple
 
 from aide_compare import VERSION
 from aide_compare.base.ending import DeviceFault, Fault
-from aide_compare.base.escapes import guarded, shown
+from aide_compare.base.escapes import encoded, guarded, shown
 from aide_compare.base.files import read_file
-from aide_compare.base.replacement import replace
+from aide_compare.base.replacement import remove, replace
 from aide_compare.base.words import TRUSTED_SIDES
 from aide_compare.compare.configuration import NONE, configuration_in
 from aide_compare.compare.exclusions import Exclusions
@@ -29,13 +29,13 @@ from aide_compare.hosts.hosts_read import host_of, read_changes
 from aide_compare.hosts.report_values import WHOLE, Host
 from aide_compare.hosts.store import BASELINE, MAX_BASELINE, NEW_FILE, PREVIOUS, HostDirectory
 
-# In the store what the last run over its hosts knew of its canary, and in the directory of a canary
-# which comparison has listed something the last time.
-RUN = "canary"
+# In the store why the last run was without its canary, and in the directory of a canary which
+# comparison has listed something the last time.
+UNUSED = "canary"
 LISTED = "listed"
 MAX_TEXT = 60000
 MAX_NOTE = 5000
-SILENT = "is silent on the other hosts"
+NOTE = "the note of the canary"
 UNLISTED = (
     "what was silent beside it is not listed here, since it was compared again or not at all, or is"
     " no host of this report; compare and report all hosts again"
@@ -53,14 +53,6 @@ class Pair(NamedTuple):
     old: str
     new: str
     rules: str
-
-
-class Run(NamedTuple):
-    """What a run over many hosts knew of its canary."""
-
-    host: str  # "" if no host was compared beside it.
-    note: str  # For the reports that follow.
-    sha256: str = ""  # Of its new database, if these have to list what differs in it.
 
 
 def rules_of(exclusions: Exclusions | None, configuration: str | None) -> str:
@@ -109,10 +101,9 @@ def listed_pair(directory: HostDirectory, rules: str) -> Pair | None:
     return None
 
 
-def trusted_pair(host: str, request: HostsRequest) -> tuple[Run, Mapping[str, Copy]]:
-    """What there is to note of a canary that was compared just now, and the databases that the
-    other hosts are compared beside."""
-    note = f"canary {host}: what changed there in the same way"
+def trusted_pair(host: str, request: HostsRequest) -> Mapping[str, Copy]:
+    """The databases of a canary that was compared just now, beside which the other hosts are
+    compared."""
     rules = rules_of(request.exclusions, request.configuration)
     with closing(HostDirectory(request.store, host, request.seconds)) as directory:
         state = read_state(directory.state_path)
@@ -123,58 +114,60 @@ def trusted_pair(host: str, request: HostsRequest) -> tuple[Run, Mapping[str, Co
             earlier = listed_pair(directory, rules)
             with suppress(Fault):
                 if earlier:
-                    copies = copies_of(directory, ACCEPTED, earlier)
-                    return Run(host, f"{note}, and was accepted, {SILENT}"), copies
-        run = Run(host, f"{note} {SILENT}", pair.new)
-        return run, copies_of(directory, COMPARED, pair)
+                    return copies_of(directory, ACCEPTED, earlier)
+        return copies_of(directory, COMPARED, pair)
 
 
-def keep_run(store: str, run: Run | None) -> None:
-    """Keeps what a run knew of its canary for the commands that follow. One without a canary may be
-    over some hosts only, so that the others still are silent beside the last one."""
-    path = f"{store}/{RUN}"
-    if run is None:
-        with suppress(Fault):  # A damaged one stays, and reports say so.
-            known = run_in(store)
-            if known and not known.host:
-                os.unlink(path)
-        return
-    text = json.dumps(run._replace(note=run.note[:MAX_NOTE]))
-    replace(path, text.encode(), 0o600, "the note of the canary")
+def keep_note(store: str, note: str) -> None:
+    """Keeps for the reports why a run was without its canary; an empty note if it was not. On a
+    full disk the hosts are compared all the same."""
+    path = f"{store}/{UNUSED}"
+    with suppress(Fault, OSError):
+        if note:
+            replace(path, encoded(note[:MAX_NOTE]), 0o600, NOTE)
+        else:
+            remove(path)
 
 
-def run_in(store: str) -> Run | None:
-    """What the last run over a store knew of its canary; None if it had none."""
-    path = f"{store}/{RUN}"
+def last_notes(store: str) -> list[str]:
+    """The note of the last run, if there is one."""
+    path = f"{store}/{UNUSED}"
     if not os.path.lexists(path):
-        return None
-    try:
-        host, note, digest = json.loads(read_file(path, MAX_TEXT, "the note of the canary "))
-        return Run(str(host), guarded(str(note)), str(digest))
-    except (ValueError, TypeError):
-        raise DeviceFault(f"{shown(path)} is no note of a canary") from None
+        return []
+    text = read_file(path, MAX_TEXT, f"{NOTE} ").decode("utf-8", "replace")
+    if not text.startswith("canary "):
+        raise DeviceFault(f"{NOTE} {shown(path)} is damaged")
+    return [f"in the last run {guarded(text)}"]
 
 
-def is_in_report(run: Run, hosts: Sequence[Host]) -> bool:
-    """Whether a report over these hosts lists what was silent beside the canary of a run."""
-    if not run.sha256:
-        return True
-    for host in hosts:
-        if host.name == run.host and host.state and host.state.new_sha256 == run.sha256:
-            return host.status == 0 or host.report == WHOLE
-    return False
+def words_on(state: State, listed: Set[tuple[str, str]]) -> str:
+    """What a report says of the canary of a host, by the state of this host; `listed` are the hosts
+    whose changes the report lists, each with its new database. An accepted canary was listed
+    before."""
+    place, file = os.path.split(state.trusted_new)
+    name = os.path.basename(place)
+    accepted = ", and was accepted," if file == BASELINE else ""
+    if accepted or (name, state.trusted_new_sha256) in listed:
+        way = "what changed there in the same way"
+        return f"canary {name}: {way}{accepted} is silent on the other hosts"
+    return f"canary {name}: {UNLISTED}"
 
 
 def notes_of(store: str, hosts: Sequence[Host]) -> tuple[list[str], bool]:
-    """What the last run over a store has noted of its canary, which a report says first, and
-    whether something may be listed nowhere."""
+    """What a report over these hosts says first of their canaries, and whether it warns that
+    something may be listed nowhere. What a canary made silent on a host is listed if the report has
+    the very changes of the canary, of which none is silent by another one."""
+    listed = {
+        (host.name, host.state.new_sha256)
+        for host in hosts
+        if host.state and not host.trusted and (host.status == 0 or host.report == WHOLE)
+    }
+    notes = {words_on(host.state, listed) for host in hosts if host.state and host.trusted}
+    warnings = {note for note in notes if UNLISTED in note}
+    notes -= warnings
+    last = []
     try:
-        run = run_in(store)
+        last = last_notes(store)
     except Fault as fault:
-        run = Run("", fault.text)
-    is_beside = any(host.state and host.state.trusted_new for host in hosts)
-    if run is None or (run.host and not is_beside):
-        return [], False
-    if is_in_report(run, hosts):
-        return [run.note], False
-    return [run.note, f"canary {run.host}: {UNLISTED}"], True
+        warnings.add(fault.text)
+    return [*sorted(warnings), *last, *sorted(notes)], bool(warnings)

@@ -100,6 +100,11 @@ class Host(NamedTuple):
         return self.counts.of_severity(SEVERITIES[0]) if self.counts else None
 
     @property
+    def trusted(self) -> int:
+        """How many of its changes are silent since a canary has them too."""
+        return self.counts.trusted if self.counts and self.status <= 7 else 0
+
+    @property
     def differs(self) -> bool:
         """Whether it has changes that somebody has to read."""
         return 1 <= self.status <= 7
