@@ -66,16 +66,14 @@ class AcceptingTest(CommandTest):
 
     def accepts(self, told: Texts, digest: str = DIGEST, *words: str, **more: Any) -> None:
         """The new database with this digest is accepted, and this is printed."""
-        answer = accept(self, digest, *words, **more)
-        self.expect(f"{digest!r} {words}", answer, 0, told, b"")
+        self.expect(f"{digest!r} {words}", accept(self, digest, *words, **more), 0, told, b"")
 
     def refuses(
         self, status: int, told: Texts, digest: str = DIGEST, *words: str, **more: Any
     ) -> None:
         """It is refused with this error, and nothing moves."""
         before = contents(self)
-        answer = accept(self, digest, *words, **more)
-        self.expect(f"{digest!r} {words}", answer, status, b"", told)
+        self.expect(f"{digest!r} {words}", accept(self, digest, *words, **more), status, b"", told)
         self.assertEqual(contents(self), before, (digest, words))
 
 

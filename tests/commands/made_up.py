@@ -173,8 +173,7 @@ class Host:
     def brief(self, sandbox: CommandTest) -> str:
         """What people read first of the two nights."""
         self.write(sandbox)
-        words = ("host-old.db", "host-new.db")
-        return str(sandbox.call("aide-compare", *words).output.decode())
+        return str(sandbox.call("aide-compare", "host-old.db", "host-new.db").output.decode())
 
 
 def write_records(sandbox: CommandTest, files: dict[str, bytes]) -> None:

@@ -256,8 +256,7 @@ def keep_indexes(sandbox: CommandTest, before: str) -> None:
     """Puts the indexes where apt keeps them, with this before their names."""
     os.makedirs(os.path.dirname(sandbox.path(before)), exist_ok=True)
     for name in INDEXES:
-        source = sandbox.path(f"{SUITE}/{name.replace('_', '/')}")
-        shutil.copy(source, sandbox.path(before + name))
+        shutil.copy(sandbox.path(f"{SUITE}/{name.replace('_', '/')}"), sandbox.path(before + name))
 
 
 class ArchiveCase(CommandTest):

@@ -29,9 +29,8 @@ def state_text(**values: Any) -> bytes:
 class StateTest(CommandTest):
     def put(self, age: int = 60, **more: Any) -> str:
         """Writes a state of so many seconds ago. Returns its path."""
-        now = int(time.time())
         return self.write(
-            "state", state_text(**{"new_sha256": "a" * 64, "time": now - age, **more})
+            "state", state_text(**{"new_sha256": "a" * 64, "time": int(time.time()) - age, **more})
         )
 
     def ask(self, tool: str, *words: str, **more: Any) -> Answer:

@@ -133,8 +133,7 @@ class AcceptAskedTest(AcceptingTest):
             status, text = self.asked(answer)
             self.assertEqual((status, contents(self)[:2]), (0, (NEW, OLD)), (answer, text))
             place = text.find(b"SHA-256 %s\nMake it" % DIGEST.encode())
-            changes = text.find(b"  changed  /c: ")
-            self.assertTrue(0 < changes < place < text.find(PROMPT), text)
+            self.assertTrue(0 < text.find(b"  changed  /c: ") < place < text.find(PROMPT), text)
 
     def test_no(self) -> None:
         before = contents(self)
@@ -246,8 +245,7 @@ class AcceptPartlyTest(AcceptingTest):
                 # Packed as the new one, without a name or a time.
                 self.assertEqual(self.read(BASE + "aide.db")[:8], b"\x1f\x8b\x08" + bytes(5))
                 words = (*([] if owner is None else ["--user", "nobody"]), *FILES[::-1])
-                brief = b"  added    /a: "
-                self.answered(7, brief, b"3 open of 3 changes", "aide-compare", *words)
+                self.answered(7, b"  added    /a: ", b"3 open of 3 changes", "aide-compare", *words)
                 self.accepts(b"the baseline already, but for what stays open", sha256(NEW), *OPEN)
                 self.assertEqual(contents(self), (KEPT, OLD, NEW, 3), "nothing changes")
                 self.accepts(b"the baseline now: ")

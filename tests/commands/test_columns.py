@@ -104,5 +104,4 @@ class ColumnsTest(CommandTest):
         self.assertIsNone(mail.sent(self), "none is sent by hand")
         os.remove(self.path("state"))
         self.write("odd.db", OLD.replace(b"fstype", b"\xc3\xa9:x").replace(b"4096", b"9"))
-        silent = "1 change, all silent; the columns fstype, ??x are not compared"
-        self.mails("odd.db", silent)
+        self.mails("odd.db", "1 change, all silent; the columns fstype, ??x are not compared")

@@ -62,8 +62,7 @@ class Fleet(Hosts):
     def night(self, *words: str) -> dict[str, int]:
         """Compares all hosts beside the canary. Returns how many changes are open on which hosts,
         as the lines and the report say."""
-        hosts = self.sandbox.path("hosts")
-        said = self.compare("--canary", CANARY, *words, hosts)
+        said = self.compare("--canary", CANARY, *words, self.sandbox.path("hosts"))
         self.sandbox.assertLessEqual(said.status, 7, said)
         summary, self.found, changes = self.objects()
         opened = {host: each["open"] or 0 for host, each in self.found.items() if each["status"]}
@@ -102,8 +101,7 @@ class FleetNightsTest(CommandTest):
             fleet.accept(CANARY)
         fleet.send(NAMES, mark)
         self.assertEqual(fleet.night(), {EVIL: 1}, "those that lag are quiet")
-        first = fleet.report().output_text.split("\n")[0]
-        self.assertIn("and was accepted, is silent", first)
+        self.assertIn("and was accepted, is silent", fleet.report().output_text.split("\n")[0])
         self.assertIn("www4", fleet.accept_silent())
         fleet.accept(EVIL)
         fleet.send(NAMES, mark)
@@ -198,8 +196,7 @@ class ListedOnceTest(CommandTest):
     def test_always_there(self) -> None:
         """What the canary always or never had is no change there, but where it came or went."""
         weak = program("/bin/su", b"weak")
-        backdoor = program("/bin/nmap", b"nmap")
-        www = measured(weak, backdoor)
+        www = measured(weak, program("/bin/nmap", b"nmap"))
         db1 = (measured(program("/bin/su", b"hard"), program("/sbin/x", b"x")), www)
         found = self.opened({"www": (www, www), "db1": db1})
         self.assertEqual(found, {"db1": "/bin/nmap /bin/su /sbin/x"})

@@ -85,8 +85,7 @@ class FrontTest(CommandTest):
         """AIDE's own options go to the program as they are, with its statuses, and no Python."""
         lines = "database_in=file:%s\ndatabase_new=file:%s"
         lines %= (self.path("old.db"), self.path("new.db"))
-        report = b"AIDE found differences"
-        self.answered(7, report, b"", TOOL, "-E", "-c", "/dev/null", "-A", lines)
+        self.answered(7, b"AIDE found differences", b"", TOOL, "-E", "-c", "/dev/null", "-A", lines)
         self.refused(15, b"aide: usage: ", TOOL, "-D", "--nonsense")
         self.refused(15, b"aide-compare sort: ", TOOL, "sort", "-E")
         self.stub("aide", TELLS, "libexec/aide-compare")
@@ -99,8 +98,7 @@ class FrontTest(CommandTest):
             told = "".join("%s\n" % word for word in words).encode()
             output = self.answered(5, told + b"SigIgn:", b"", TOOL, *words).output
             self.assertTrue(output.startswith(told), output)
-            ignored = int(output.rpartition(b":")[2], 16)
-            self.assertFalse(ignored & SIGPIPE, "no signal is ignored")
+            self.assertFalse(int(output.rpartition(b":")[2], 16) & SIGPIPE, "no signal is ignored")
         os.remove(self.program)
         self.refused(18, b"cannot find " + self.program.encode(), TOOL, "-E")
 

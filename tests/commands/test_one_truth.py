@@ -54,8 +54,7 @@ class OneTruthTest(ArchiveCase):
         """What the timer does before it compares."""
         words = started("aide/signed.conf", "ExecStartPre")
         words = [self.below(word) for word in words]
-        keyring = f"--keyring={self.path('keys.gpg')}"
-        self.answered(0, b"", None, "aide-compare", *words, keyring)
+        self.answered(0, b"", None, "aide-compare", *words, f"--keyring={self.path('keys.gpg')}")
 
     def counts(self) -> str:
         """The counts of the state that the last command has written, which is taken away."""
@@ -111,8 +110,7 @@ class OneTruthTest(ArchiveCase):
             self.assertLessEqual(
                 {"open": 4, "trusted": 11}.items(), dict(page["heading"]["counts"]).items()
             )
-        shown = self.call("aide-compare show", os.fsdecode(TOOL))
-        self.assertIn(b"trusted changed ", shown.output)
+        self.assertIn(b"trusted changed ", self.call("aide-compare show", os.fsdecode(TOOL)).output)
 
     def test_without_archive(self) -> None:
         """If nothing can be made of the archive, all is told, by the job of cron too."""
@@ -137,8 +135,7 @@ class OneTruthTest(ArchiveCase):
         for path in PAIR:
             shutil.copy(self.path(path), self.path(path + ".copied"))
         copied = [path + ".copied" for path in PAIR]
-        answer = self.call("aide-compare", *copied)
-        self.assertRegex(answer.output, rb"\A1\d open ")
+        self.assertRegex(self.call("aide-compare", *copied).output, rb"\A1\d open ")
         self.assertFalse(os.path.lexists(self.path("base/state")))
         self.assertRegex(self.call("aide-compare", PAIR[0], copied[1]).output, rb"\A1\d open ")
         self.assertRegex(self.call("aide-compare", *PAIR).output, rb"\A4 open ")

@@ -64,8 +64,7 @@ def many_kinds() -> Host:
     host.new.link(LIB + b"tool.so", b"tool01").link(LIB + b"evil.so", b"/tmp/evil")
     files.update({b"/lib/bare/tool": TWO, b"/image": TWO})
     host.new.file(LIB + b"bare/tool", TWO).file(b"/image", TWO)
-    listed = (LIB + b"tool.so", LIB + b"evil.so")
-    host.packages.append(Package("tool", "2", files, listed=listed))
+    host.packages.append(Package("tool", "2", files, listed=(LIB + b"tool.so", LIB + b"evil.so")))
     host.packages.append(Package("other", "1", {}, conffiles={LIB + b"tool00": TWO}))
     return host
 
@@ -287,8 +286,7 @@ class ManyTest(CommandTest):
     @slow
     def test_memory(self) -> None:
         """Many changes take hardly more memory than a few, in each output."""
-        host = many_kinds()
-        host.write(self)
+        many_kinds().write(self)
         peaks: dict[int, dict[str, int]] = {}
         for count in (FEW, MANY):
             self.write("many-old.db", many_files(count, 1))

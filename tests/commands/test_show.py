@@ -44,8 +44,7 @@ class ShowTest(CommandTest):
         """What changed, as people read it; what did not is left out."""
         digest = base64.b64encode(bytes(range(32)))
         acl = b"POSIX," + base64.b64encode(b"group::r--\n" * 30 + b"other::r--\n") + b",0"
-        fields = ATTR, digest, acl
-        entry = b"/x 0 %d 104755 8 0 1000 5 MTcwMDAwMDAwMA== 77 1 %s %s 0\n" % fields
+        entry = b"/x 0 %d 104755 8 0 1000 5 MTcwMDAwMDAwMA== 77 1 %s %s 0\n" % (ATTR, digest, acl)
         self.write("one.db", COLUMNS + entry + END)
         other = entry.replace(b" 1000 5 MTcwMDAwMDAwMA==", b" 1000 6 MTcwMDAwMDAwMQ==")
         self.write("two.db", COLUMNS + other.replace(acl, b"0") + END)
@@ -75,8 +74,7 @@ class ShowTest(CommandTest):
         brief = self.call("aide-compare", *pair).output.decode()
         words = f"/x: content, {mode}, owner root -> 1000, size 5 -> 6, links 1 -> 2, ACL\n"
         self.assertIn(words, brief)
-        page = self.call("aide-compare page", *pair).output
-        rows = seen(page)["entries"]
+        rows = seen(self.call("aide-compare page", *pair).output)["entries"]
         self.assertEqual(rows[0]["about"], f"size +1, {mode}, owner 0 -> 1000, links, content, ACL")
         names = ["size", "mode", "owner", "links", "ACL", "SHA256"]
         self.assertEqual([row[0] for row in rows[0]["rows"]], names)

@@ -48,8 +48,7 @@ def random_lines(pick: random.Random, count: int) -> list[bytes]:
     known: set[bytes] = set()
     lines = []
     for _ in range(count):
-        pieces = [pick.choice(PIECES + [b"/"]) for _ in range(pick.randint(0, 6))]
-        path = b"/" + b"".join(pieces)
+        path = b"/" + b"".join([pick.choice(PIECES + [b"/"]) for _ in range(pick.randint(0, 6))])
         if decoded(path) not in known:
             known.add(decoded(path))
             blanks = pick.choice([b"", b" ", b"\t"]), pick.choice([b" ", b"\t", b" \t "])
@@ -107,8 +106,7 @@ class SortingTest(CommandTest):
         lines = [b"1 /b\\ 1", b"2 /a 2", b"3 /b%5C 3", b"4 /b\\ 4"]
         answer = self.sort(text_of(lines))
         said = b"aide-compare sort: appears twice: /b\\134\n"
-        wanted = text_of([lines[1], lines[0], *lines[2:]])
-        self.expect("a path twice", answer, 24, wanted, said)
+        self.expect("a path twice", answer, 24, text_of([lines[1], lines[0], *lines[2:]]), said)
         many = [b"1 /%04d 1" % (number // 2) for number in range(400)]
         said_of = [b"/0099\n", b"more paths that appear twice: 100\n"]
         self.expect("200 paths twice", self.sort(text_of(many)), 24, None, said_of)

@@ -112,8 +112,7 @@ class OccasionTest(CommandTest):
                 answer = self.call(tool, OLD, NEW, stdout=full)
             self.expect("a full device", answer, DEVICE, None, b"No space left")
             for closed in (">&-", ">&- 2>&-"):
-                command = shlex.join(self.command(tool, OLD, NEW))
-                run = ["sh", "-c", f"{command} {closed}"]
+                run = ["sh", "-c", f"{shlex.join(self.command(tool, OLD, NEW))} {closed}"]
                 done = subprocess.run(run, env=self.environment(), capture_output=True)
                 found = (done.returncode, done.stdout, b"Traceback" in done.stderr)
                 self.assertEqual(found, (DEVICE, b"", False), (closed, done.stderr))

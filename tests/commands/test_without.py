@@ -165,8 +165,7 @@ class WithoutTest(CommandTest):
         mail.prepare(self)
         mail.call(self, *words)
         self.assertEqual(mail.body(mail.sent(self)).lower().count(said), 1)
-        page = self.call("aide-compare page", *words).output
-        self.assertIn(b"Left out: 2 of 4 changes.", page)
+        self.assertIn(b"Left out: 2 of 4 changes.", self.call("aide-compare page", *words).output)
         self.write("same.db", self.read("o.db"))
         answer = self.call("aide-compare", "--exclude", "/var/log/**", "o.db", "same.db")
         self.expect("nothing differs", answer, 0, b"no differences in 4 entries\n")
@@ -193,8 +192,7 @@ class WithoutTest(CommandTest):
         standings.prepare(self)
         for name in ("o.db", "n.db"):
             self.write("trusted-" + name, self.read(name))
-        trusted = ["--trusted", "trusted-o.db", "trusted-n.db"]
-        words = ["--exclude", "/**", *trusted, "o.db", "n.db"]
+        words = ["--exclude", "/**", "--trusted", "trusted-o.db", "trusted-n.db", "o.db", "n.db"]
         answer = self.call(JSON, *words)
         self.assertEqual(set(self.standings(answer).values()), {"same", "trusted"}, answer)
         self.assertEqual(answer.status, 0)

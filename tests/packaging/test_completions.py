@@ -98,9 +98,8 @@ def named_in(text: str) -> set[str]:
 
 
 def ask_bash(trial: InstallTest, *words: str) -> list[str]:
-    path = trial.first(BASH)
     done = trial.run_words(
-        ["bash", "--norc", "-c", ASK_BASH, "bash", path, *words], cwd=trial.source
+        ["bash", "--norc", "-c", ASK_BASH, "bash", trial.first(BASH), *words], cwd=trial.source
     )
     trial.assertEqual((done.status, done.errors), (0, b""), ("bash completes", words))
     return done.output_text.split()

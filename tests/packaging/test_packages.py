@@ -94,8 +94,7 @@ def try_debian(trial: InstallTest, path: str) -> None:
     """The Debian package: its fields, its sums, its times, and nothing of /usr/local."""
     done = trial.run_words(["dpkg-deb", "-f", path])
     fields = dict(re.findall(r"^([\w-]+): (.*)$", done.output_text, re.M))
-    wanted = {**FIELDS, "Version": trial.version + "-1"}
-    trial.assertEqual({**fields, **wanted}, fields)
+    trial.assertEqual({**fields, **FIELDS, "Version": trial.version + "-1"}, fields)
     folder = path + ".tree"
     done = trial.run_words(["dpkg-deb", "-R", path, folder])
     trial.assertEqual(done.status, 0, done)

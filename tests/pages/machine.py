@@ -101,8 +101,7 @@ class MachineTest(ScratchTest):
         self.write("/usr/local/sbin/sendmail", sendmail, 0o755)
         self.write("/usr/local/sbin/systemctl", "#!/bin/sh\nexit 0\n", 0o755)
         kept = self.path("/tmp/logged")
-        log = f'printf "%s\\n" "$*" >> "{kept}"; [ -t 0 ] || cat >> "{kept}"'
-        self.stub("logger", log)
+        self.stub("logger", f'printf "%s\\n" "$*" >> "{kept}"; [ -t 0 ] || cat >> "{kept}"')
         for name in ("systemctl", "chown", "apt"):
             self.stub(name, "exit 0")
         self.stub("ssh", SSH.replace("ROOT", self.root))
@@ -127,8 +126,7 @@ class MachineTest(ScratchTest):
         self.put_databases(old, new)
         path = "/etc/aide-compare/defaults"
         if "--databases" not in self.text_at(path):
-            line = f"--databases {BASELINE} {NEWEST}\n"
-            self.write(path, self.text_at(path) + self.below(line))
+            self.write(path, self.text_at(path) + self.below(f"--databases {BASELINE} {NEWEST}\n"))
 
     def below(self, text: str) -> str:
         """A text with the directories that it names put below the root."""

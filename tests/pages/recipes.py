@@ -117,8 +117,7 @@ class RecipesTest(MachineTest):
         self.needs_root()
         made = self.path(BASELINE)
         os.rename(made, made + ".made")
-        move = f'#!/bin/sh\nmv "{made}.made" "{made}"\n'
-        self.write("/usr/local/sbin/aideinit", move, 0o755)
+        self.write("/usr/local/sbin/aideinit", f'#!/bin/sh\nmv "{made}.made" "{made}"\n', 0o755)
         self.write("/etc/aide-compare/without", "")  # The package brings this file.
         done = self.recipe("first")
         self.assertEqual((done.status, done.errors), (0, b""), done)

@@ -77,8 +77,7 @@ def unescaped(text: str) -> str:
 
 def between(begin: str, end: str) -> str:
     """The text of the page of configurations between two of its marks."""
-    found = CONF_PAGE.split(f'.\\" begin {begin}\n')[1].split(f'.\\" end {end}\n')[0]
-    return unescaped(found)
+    return unescaped(CONF_PAGE.split(f'.\\" begin {begin}\n')[1].split(f'.\\" end {end}\n')[0])
 
 
 def line_after(text: str, begin: str) -> str:
@@ -118,8 +117,7 @@ class PagesTest(ScratchTest):
     def test_mandoc(self) -> None:
         """No style is doubtful. The pages of other programs that ours name are there."""
         self.needs("mandoc")
-        text = "".join(map(read, MANUALS))
-        for name, section_ in set(re.findall(r"\bXr (\S+) (\d)", text)):
+        for name, section_ in set(re.findall(r"\bXr (\S+) (\d)", "".join(map(read, MANUALS)))):
             self.write(f"man/man{section_}/{name}.{section_}", "")
         for page in MANUALS:
             shutil.copy(os.path.join(TOP, page), self.path("man/man" + page[-1]))

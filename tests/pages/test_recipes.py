@@ -27,8 +27,7 @@ class HandsTest(RecipesTest):
         self.write("/etc/aide/compare.conf", "report_level=summary\n")
         done = self.recipe("options")
         self.assertEqual((done.status, done.output_text.count("Summary:")), (7, 2))
-        entries = re.findall(rb"^\S.{17}: /.*$", done.output, re.M)
-        self.assertEqual(len(entries), 22)
+        self.assertEqual(len(re.findall(rb"^\S.{17}: /.*$", done.output, re.M)), 22)
         self.put_files(OLD, OLD)
         self.assertEqual(self.recipe("pair").status, 0)
 
@@ -38,8 +37,7 @@ class HandsTest(RecipesTest):
         columns += "selinux e2fsattrs capabilities"
         fields = "x 1 1 100644 1 1 1 1 1 1 1 1B2M2Y8AsgTpgAmY7PhCfg== 1 1 1 1 1"
         head = f"@@begin_db\n@@db_spec name attr {columns}\n"
-        new = f"{head}/a 4094 {fields}\n@@end_db\n"
-        self.put_files(f"{head}/a 0{' 0' * 17}\n@@end_db\n", new)
+        self.put_files(f"{head}/a 0{' 0' * 17}\n@@end_db\n", f"{head}/a 4094 {fields}\n@@end_db\n")
         self.assertEqual(self.recipe("pair").status, 4)
         self.assertEqual(self.recipe("measured").status, 0)
 

@@ -29,8 +29,7 @@ def split_uses(text: str) -> Iterator[list[str]]:
     """Each path of a `use` line of code, as a list of words. A ghost import names no code."""
     for head, names in USE.findall(text):
         for name in [each for each in names.split(",") if each.strip()] or [""]:
-            path = (head + name).split(" as ")[0]
-            yield [word.strip() for word in path.split("::")]
+            yield [word.strip() for word in (head + name).split(" as ")[0].split("::")]
 
 
 def module_of(source: pathlib.Path, file: pathlib.Path) -> Module:

@@ -42,8 +42,7 @@ def read_bytes(data: bytes) -> list[str]:
 class KeptLinesTest(ModuleTest):
     def test_written(self) -> None:
         """Lines that were cut are not kept, and those of another form are a Fault."""
-        stream = stream_of(*SOUND)
-        lines = mock.Mock(fd=stream, is_cut=False)
+        lines = mock.Mock(fd=stream_of(*SOUND), is_cut=False)
         comparison: Any = mock.Mock(known_lines=lambda: lines)
         target = in_memory(b"")
         counts = write_kept(target, comparison, ROOM)

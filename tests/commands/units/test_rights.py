@@ -28,8 +28,7 @@ def identity() -> str:
 def identity_of(entry: pwd.struct_passwd) -> str:
     gid = entry.pw_gid
     names = [entry.pw_dir or "/", entry.pw_name, entry.pw_name]
-    groups = os.getgrouplist(entry.pw_name, gid)
-    return repr(((entry.pw_uid,) * 3, (gid,) * 3, groups, names))
+    return repr(((entry.pw_uid,) * 3, (gid,) * 3, os.getgrouplist(entry.pw_name, gid), names))
 
 
 def identity_after(work: Callable[..., object], *given: Any) -> str:
@@ -56,8 +55,7 @@ class RightsTest(ModuleTest):
         os.setgroups([0, 4])
 
     def test_become(self) -> None:
-        root = pwd.getpwuid(0)
-        for entry in (user(OTHER, 1, "/somewhere"), user(OTHER, 0), root):
+        for entry in (user(OTHER, 1, "/somewhere"), user(OTHER, 0), pwd.getpwuid(0)):
             self.gives(identity_of(entry), identity_after, rights.become, entry)
 
     def test_come_back(self) -> None:
@@ -74,8 +72,7 @@ class RightsTest(ModuleTest):
             ("setresgid", OTHER, 1),
         ):
             with mock.patch.object(os, name, calls[name]):
-                told = "cannot be given up"
-                self.fails(18, told, identity_after, rights.become, user(uid, gid))
+                self.fails(18, "cannot be given up", identity_after, rights.become, user(uid, gid))
 
     def test_give_up(self) -> None:
         nobody = pwd.getpwuid(OTHER)
@@ -135,5 +132,4 @@ class OwnersTest(PlacesTest):
             return repr(os.getresuid()).encode()
 
         self.gives(repr((OTHER,) * 3).encode(), in_child, become_and_look)
-        both = (*his, self.path("hers/x"))
-        self.fails(15, "choose one by --user", rights.become_owner, *both)
+        self.fails(15, "choose one by --user", rights.become_owner, *his, self.path("hers/x"))

@@ -46,8 +46,7 @@ class Browser:
         self.write, self.read, self.session = write, read, None
         targets = self.ask("Target.getTargets")["targetInfos"]
         number = next(target["targetId"] for target in targets if target["type"] == "page")
-        attached = self.ask("Target.attachToTarget", targetId=number, flatten=True)
-        self.session = attached["sessionId"]
+        self.session = self.ask("Target.attachToTarget", targetId=number, flatten=True)["sessionId"]
         for domain in ("Page", "Runtime", "Log"):
             self.ask(domain + ".enable")
         self.ask("Performance.enable", timeDomain="threadTicks")

@@ -89,8 +89,7 @@ def random_block(pick: random.Random, depth: int = 0) -> list[bytes]:
     lines = []
     for _ in range(pick.choice([0, 1, 2, 4])):
         if pick.random() < 0.25 and depth < 4:
-            word = pick.choice(OPENINGS)
-            lines.append(word + pick.choice(VARIABLES + [b"NOPE"]))
+            lines.append(pick.choice(OPENINGS) + pick.choice(VARIABLES + [b"NOPE"]))
             lines += random_block(pick, depth + 1)
             if pick.random() < 0.5:
                 lines += [pick.choice([b"@@else", b" @@else x"])] + random_block(pick, depth + 1)

@@ -93,8 +93,7 @@ def fed(
 def fed_pair(
     program: bytes, folder: Folder, old_texts: list[bytes], new_texts: list[bytes]
 ) -> tuple[Answer, list[int]]:
-    texts = {folder.at("old"): old_texts, folder.at("new"): new_texts}
-    return fed(program, folder.words(), texts)
+    return fed(program, folder.words(), {folder.at("old"): old_texts, folder.at("new"): new_texts})
 
 
 def beginning(report: bytes) -> bytes:

@@ -53,8 +53,7 @@ class LimitsTest(FolderTest):
             texts = [database(entry), database(link), database(comment), database(b"/a 1", end)]
             for status, text in zip(statuses, texts):
                 self.folder.pair(text, database(b"/a 1"), b"report_level=list_entries\n")
-                label = f"{shown(text)}, {LINE_LIMIT + more} bytes"
-                self.ends(label, self.folder.words(), status)
+                self.ends(f"{shown(text)}, {LINE_LIMIT + more} bytes", self.folder.words(), status)
         behind = b"@@end_db\n" + b"x" * 3 * LINE_LIMIT
         self.folder.pair(database(b"/a 1", behind), database(b"/a 1"))
         self.ends("a long line behind the end", self.folder.words(), 0)

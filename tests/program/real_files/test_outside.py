@@ -54,8 +54,7 @@ class OutsideTest(ProgramTest):
     def test_file_sizes(self) -> None:
         with Folder() as folder:
             folder.pair()
-            want = folder.wanted()
-            check_file_sizes(self, "a report", self.program, folder.words(), want, 31)
+            check_file_sizes(self, "a report", self.program, folder.words(), folder.wanted(), 31)
 
     def test_long_lines(self) -> None:
         """Sparse files of 2 GB that have one line, and FIFOs with a line of 32 MB: no more is read
