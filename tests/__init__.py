@@ -1,5 +1,4 @@
-"""Tests of the program, of the commands, of their pages and packages, and of the source. They run
-from the top."""
+"""Tests of the program, the commands, their pages and packages, and the source; run at the top."""
 from tests.lib.signals import heed
 
 heed()

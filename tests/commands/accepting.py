@@ -1,5 +1,4 @@
-"""The folder in which aide-compare accept is tried, as it is before, and the library that acts at a
-call."""
+"""The folder in which aide-compare accept is tried, and the library that acts at a call."""
 from __future__ import annotations
 
 import gzip

@@ -1,5 +1,4 @@
-"""A host in two nights, as trials make it up: its files as AIDE sees them, and dpkg's records of
-now."""
+"""A host in two nights, made up: its files as AIDE sees them, and dpkg's records of now."""
 from __future__ import annotations
 
 import base64

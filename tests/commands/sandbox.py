@@ -28,8 +28,7 @@ NOBODY = 65534
 # The Python of the machine, which the commands name.
 PYTHON = "/usr/bin/python3"
 
-# What a child does before it becomes the tool: it gives up the rights of root, has another umask,
-# or cannot write much.
+# What a child does before it is the tool: it gives up root's rights, has a umask or small files.
 UMASK = "os.umask(0o%o)"
 SMALL_FILES = "resource.setrlimit(resource.RLIMIT_FSIZE, (%d, %d))"
 BECOME = """import os, resource, signal, sys
@@ -37,8 +36,7 @@ signal.signal(signal.SIGPIPE, signal.SIG_DFL)
 %s
 os.execvp(sys.argv[1], sys.argv[1:])"""
 
-# The command in the directory of a test: the product's own, after whose imports a test may give
-# names other values.
+# The product's own command in a test's directory; after its imports names may get other values.
 FRONT = """#!/usr/bin/python3 -IS
 import os, sys
 from _frozen_importlib_external import PathFinder
@@ -92,8 +90,7 @@ def sha256(text: bytes) -> str:
 
 @functools.lru_cache(maxsize=None)
 def compiled_commands() -> str:
-    """A copy of the commands with their byte code: that of the gate, or one that is made once for
-    the tests of this process."""
+    """The commands with their byte code: the gate's copy, or one that this process makes once."""
     if os.environ.get(COMPILED):
         return os.environ[COMPILED]
     directory = tempfile.mkdtemp(prefix="aide-compare-commands-")
@@ -127,8 +124,7 @@ class CommandTest(ScratchTest):
         self.write("bin/aide-compare", FRONT % "", 0o755)
         os.symlink("aide-compare", self.path("bin/check_aide_compare"))
         self.replaced: dict[str, str] = {}
-        # The records of packages and the administrator's directory are those of the test, never
-        # those of this machine.
+        # Packages' records and the administrator's directory are the test's, never this machine's.
         self.set_names("changes.recorded", DPKG=self.path("dpkg"))
         self.after_import("changes.recorded", "Dpkg.__init__.__defaults__ = (DPKG,)\n")
         self.set_names("base.parser", DIRECTORY=self.path("etc"))
@@ -137,8 +133,7 @@ class CommandTest(ScratchTest):
             self.write(name + ".db.gz", gzip.compress(text))
 
     def set_names(self, module: str, **values: object) -> None:
-        """Names of a module of the commands have other values in each command that this test
-        starts. They have to be there."""
+        """Gives names of a module, which have to be there, other values in the test's commands."""
         self.after_import(
             module, "".join(f"{name}\n{name} = {value!r}\n" for name, value in values.items())
         )
@@ -260,8 +255,7 @@ class CommandTest(ScratchTest):
     def refused(
         self, status: int, errors: Texts, tool: str, *words: str, state: str = "", **more: Any
     ) -> Answer:
-        """A tool ends with this status and these errors, and prints nothing. The state file that it
-        is given says so too."""
+        """A tool prints nothing and ends with this status and errors. Its state says so too."""
         options = ("--state", state) if state else ()
         answer = self.answered(status, b"", errors, tool, *options, *words, **more)
         if state:

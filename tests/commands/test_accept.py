@@ -1,5 +1,4 @@
-"""aide-compare accept: by a digest, by an answer on a terminal, and partly: a database of which a
-part stays open."""
+"""aide-compare accept: by a digest, by an answer on a terminal, and but for what stays open."""
 from __future__ import annotations
 
 import gzip
@@ -169,8 +168,7 @@ class AcceptAskedTest(AcceptingTest):
         self.assertEqual((status, contents(self)[0]), (0, NEW), text)
 
     def test_refused(self) -> None:
-        """Without a terminal on both sides nobody is asked; and if nothing was compared, there is
-        nothing to accept."""
+        """Nobody is asked without a terminal on both sides, or if nothing was compared."""
         self.refused(15, b"give --sha256 DIGEST", TOOL, *FILES, text=b"y\n")
         self.refused(15, b"unrecognized arguments: --yes", TOOL, "--yes", *FILES)
         status, text = self.asked(b"y\n", ("-q", *FILES))

@@ -20,8 +20,7 @@ NAMELESS = "read pread64 write flock fsync fchmod fchown setresuid".split()
 FOR_THE_CALL, FOR_GOOD = 2, 3
 BASELINE = "theirs/base/aide.db"
 SECRET = b"what only root may read and write\n"
-# For each kind of attack two names in theirs/ that change places, and where the second one leads if
-# it is a link.
+# For each attack two names in theirs/ that change places, and where the second one, a link, leads.
 KINDS = {
     "baseline": ("base/aide.db", "base/trap", "root/secret"),
     "folder": ("base", "trap", "root"),
@@ -99,8 +98,7 @@ class AcceptAttacksTest(AcceptingTest):
         return done, harm(self, before)
 
     def at_all_calls(self, kind: str, ways: tuple[int, ...] = (FOR_THE_CALL, FOR_GOOD)) -> set[int]:
-        """The names change places before each call in turn, and what is root's stays. Returns
-        the statuses."""
+        """The names change places before each call in turn, what is root's stays: the statuses."""
         os.makedirs(self.path("marks"), exist_ok=True)
         os.chmod(self.path("marks"), 0o777)
         command = forked(self)

@@ -69,8 +69,7 @@ SHOWN = number_of(ENTRY)
 
 
 def upgrade() -> Host:
-    """A night on which packages were upgraded, and somebody was at work: an entry of each severity
-    and kind, and 260 of packages."""
+    """Upgrades and an intruder: an entry of each severity and kind, and 260 of packages."""
     host = Host()
     files: dict[str, dict[bytes, bytes]] = {}
     for number in range(260):

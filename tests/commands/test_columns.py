@@ -1,5 +1,4 @@
-"""Columns that the program does not know: their names in notes, state, lines, page and mail, which
-comes once for them."""
+"""Columns that the program does not know: named in notes, state, lines, page, and in one mail."""
 from __future__ import annotations
 
 import json

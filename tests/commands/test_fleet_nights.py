@@ -60,8 +60,7 @@ class Fleet(Hosts):
             self.put(host, database(self.next_number(), host in upgraded, more), None)
 
     def night(self, *words: str) -> dict[str, int]:
-        """Compares all hosts beside the canary. Returns how many changes are open on which hosts,
-        as the lines and the report say."""
+        """Compares beside the canary: how many changes are open where, as lines and report say."""
         said = self.compare("--canary", CANARY, *words, self.sandbox.path("hosts"))
         self.sandbox.assertLessEqual(said.status, 7, said)
         summary, self.found, changes = self.objects()

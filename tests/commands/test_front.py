@@ -1,5 +1,4 @@
-"""aide-compare itself: which subcommand an argument means, what goes to the program untouched, and
-the forms of a status."""
+"""aide-compare itself: which subcommand an argument means, and what the program gets untouched."""
 from __future__ import annotations
 
 import os

@@ -59,8 +59,7 @@ class ShowTest(CommandTest):
 
     @unittest.skipUnless(HAS_NODE, "not installed: node")
     def test_words(self) -> None:
-        """The brief, the page and show have one word for an attribute, and the page's row of a
-        set-ID program shows the mode."""
+        """Brief, page and show have one word for an attribute; the page shows a set-ID mode."""
         entry = b"/x 0 %d 100755 8 0 0 5 MTcwMDAwMDAwMA== 77 1 %s %s 0\n"
         acl = b"POSIX," + base64.b64encode(b"user::rwx\ngroup::r-x\nother::r-x\n") + b",0"
         digests = [base64.b64encode(bytes([number] * 32)) for number in range(2)]

@@ -35,8 +35,7 @@ def text_of(lines: list[bytes]) -> bytes:
 
 
 def sorted_text(lines: list[bytes]) -> tuple[bytes, int]:
-    """The database of some lines in path order, as the definition has it; and how many entries have
-    to come before the one above them."""
+    """Lines as a database in path order, and how many have to come before the one above."""
     entries = [line for line in lines if line.strip(b" \t") and not line.startswith(b"#")]
     rest = [line for line in lines if line not in entries]
     breaks = sum(pieces_of(one) > pieces_of(next) for one, next in zip(entries, entries[1:]))

@@ -139,8 +139,7 @@ class StandingsTest(mail.MailTest):
         self.assertEqual(found, {b"/srv/file": "open high", b"/srv/known": "open high"})
 
     def test_lines(self) -> None:
-        """The lines of aide-compare json have the standing of each change, and the last one all
-        counts. What is silent has no severity."""
+        """Lines have the standing, the last one all counts; what is silent has no severity."""
         _, objects = sample().ask(self)
         self.assertEqual(standings_of(objects), SAMPLE)
         numbers = {name: int(count) for name, count in COUNTS.items()}

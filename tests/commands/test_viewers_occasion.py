@@ -1,5 +1,4 @@
-"""aide-compare json and page of two databases: what is in the lines beside what is proved, and what
-the schema says of all lines."""
+"""aide-compare json and page: what lines have beside what is proved, and what the schema says."""
 from __future__ import annotations
 
 import json
@@ -54,8 +53,7 @@ class OccasionTest(CommandTest):
         return self.write("one.db", text % old), self.write("other.db", text % new)
 
     def test_two(self) -> None:
-        """The lines are those of the proved program, with the names of both, the severity of each
-        change, and the counts of standings."""
+        """The proved program's lines, with both names, severities, and the counts of standings."""
         rights = f"report_force_attrs={'+'.join(RIGHTS)}"
         given = self.compared()
         wanted = [json.loads(line) for line in self.lines_over(more=rights).splitlines()]

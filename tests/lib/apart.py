@@ -8,8 +8,7 @@ import os
 import subprocess
 from collections.abc import Sequence
 
-# Bound onto themselves and read-only in a mount namespace of the command's own. Trials write below
-# /tmp, /var/tmp and /run.
+# Read-only in a mount namespace of the command. Trials write below /tmp, /var/tmp and /run.
 FOLDERS = "/boot /etc /home /opt /root /srv /usr /var/lib /var/log /var/mail /var/spool"
 SCRIPT = (
     "for folder in %s; do [ ! -d $folder ] ||"
@@ -41,9 +40,8 @@ def apart(words: Sequence[str]) -> list[str]:
 
 @functools.lru_cache(maxsize=None)
 def has_own_mounts() -> bool:
-    """Gives this process mounts that it shares with its children alone, and says whether it has
-    them. (Python 3.9 has no os.unshare.) Only the thread that asks first gets them, and those that
-    it starts."""
+    """Whether this process has mounts that only its children share: the thread that asks first gets
+    them, and those that it starts. (Python 3.9 has no os.unshare.)"""
     if os.geteuid() != 0:
         return False
     library = ctypes.CDLL(None)
@@ -54,9 +52,8 @@ def has_own_mounts() -> bool:
 
 
 def forget_user(name: str, folder: str) -> None:
-    """Takes a user and a group of this name out of what this process and its children see: a
-    package of the machine, such as AIDE's, may have made them. `folder` gets the files that are
-    seen instead."""
+    """Hides a user and a group, which a package such as AIDE's may have made, from this process and
+    its children. `folder` gets the files that are seen instead."""
     names = [path for path in ("/etc/passwd", "/etc/group") if has_entry(path, name)]
     if not names or not has_own_mounts():
         return

@@ -15,8 +15,7 @@ COMPILE = "/usr/bin/python3 -IS -m compileall -q -f --invalidation-mode checked-
 
 
 def copy_directory(source: str, target: str) -> None:
-    """Copies a directory without byte code. Every user may read the copy, also if the repository
-    was cloned with a umask of 077."""
+    """Copies a directory without byte code, for every user to read, whatever the umask was."""
     shutil.copytree(source, target, ignore=shutil.ignore_patterns("__pycache__"))
     subprocess.run(["chmod", "-R", "a+rX", target], check=True)
 

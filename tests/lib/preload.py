@@ -1,5 +1,4 @@
-"""Libraries that are loaded into a program before the C library, built from C that includes no
-header of it."""
+"""Libraries that are loaded before the C library, built from C that includes no header of it."""
 from __future__ import annotations
 
 import os
@@ -19,8 +18,7 @@ FLAGS = ["-O1", "-shared", "-fPIC", "-nostdlib"]
 
 
 def compiler() -> list[str]:
-    """The command that builds a library: the machine's own compiler, or that of the toolchain with
-    its linker."""
+    """What builds a library: the machine's compiler, or the toolchain's with its linker."""
     for name in NAMES:
         path = shutil.which(name)
         if path:

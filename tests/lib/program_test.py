@@ -19,8 +19,7 @@ SESSIONS = int(os.environ.get("AIDE_SESSIONS") or (150 if os.environ.get(QUICK) 
 
 
 def new_seed() -> int:
-    """The seed of random tests: another one each time, or that of AIDE_SEED, to repeat a failure,
-    which names it."""
+    """The seed of random tests: a new one, or AIDE_SEED's, to repeat a failure, which names it."""
     return int(os.environ.get("AIDE_SEED") or random.SystemRandom().randrange(10**9))
 
 

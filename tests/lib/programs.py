@@ -1,5 +1,4 @@
-"""The built programs that tests run: those of the environment variable AIDE_PROGRAM, or those of
-this repository."""
+"""The built programs that tests run: those that AIDE_PROGRAM names, or those of this repository."""
 from __future__ import annotations
 
 import os
@@ -11,8 +10,7 @@ BUILT = os.path.join(TOP, "crates", "aide", "out", "aide")
 
 
 def find_program() -> str:
-    """The whole path of the program `aide`. A test without one fails, and its message is the way to
-    a program."""
+    """The whole path of the program `aide`. A test without one fails, and says how to get one."""
     path = os.path.abspath(os.environ.get(VARIABLE) or BUILT)
     if not os.access(path, os.X_OK):
         raise AssertionError(
@@ -22,8 +20,7 @@ def find_program() -> str:
 
 
 def lines_program_of(program: str) -> str:
-    """The whole path of the program of lines that goes with a program `aide`: in the directory of
-    its own crate, or beside it."""
+    """The whole path of the program of lines: in its own crate, or beside the program `aide`."""
     directory, name = os.path.split(os.path.abspath(program))
     if directory.endswith("/crates/aide/out"):
         directory = os.path.join(directory, "..", "..", "aide_lines", "out")

@@ -1,5 +1,4 @@
-"""The byte code of the tools: made when they are installed, of each module as it is installed, and
-gone with it."""
+"""The byte code of the tools: of each module as it is installed, and gone with it."""
 from __future__ import annotations
 
 import functools

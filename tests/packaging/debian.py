@@ -80,8 +80,7 @@ def try_stop(trial: InstallTest, folder: str) -> None:
 
 
 class Machine:
-    """A root folder of its own, into which dpkg installs. The scripts run with DPKG_ROOT, as they
-    do when images are made."""
+    """A root folder for dpkg. The scripts run with DPKG_ROOT, as they do when images are made."""
 
     def __init__(self, trial: InstallTest, package: str) -> None:
         self.trial, self.package, self.root = trial, package, trial.path("debian-root")
@@ -146,8 +145,7 @@ def try_life(trial: InstallTest, package: str) -> None:
 
 
 def code(trial: InstallTest, machine: Machine) -> None:
-    """The package makes byte code when it is installed, upgraded, and when Python is; it leaves
-    none of its own behind."""
+    """Byte code is made at each installation and upgrade, also of Python, and none is left."""
     folder = os.path.join(machine.root, LIBRARY)
     former = LIBRARY + "/aide_compare/__pycache__/former.cpython-39.pyc"
     for name in ("installed", "upgraded", "after an upgrade of Python"):

@@ -38,8 +38,7 @@ class Sources(Scratch):
         return self.path(folder, name)
 
     def make_newer(self, program: str) -> str:
-        """A program beside another that stands for its build for newer processors, with the record
-        of a proof."""
+        """A program that stands for the build for newer processors, with the record of a proof."""
         data = self.read(program) + bytes(1)
         digest = hashlib.sha256(data).hexdigest()
         self.write(program + "-v3.proved", f"sha256={digest}\nkit=a kit\n")
@@ -79,8 +78,7 @@ class Sources(Scratch):
 
 
 class InstallTest(Sources, ScratchTest):
-    """Each test installs below a directory of its own. It only reads what those of its class
-    have."""
+    """Each test installs below a directory of its own, and only reads what its class has."""
 
     shared, newer = Sources(), [""]
     program = source = small = version = plain_path = ""

@@ -1,5 +1,4 @@
-"""The package for systems of rpm, as rpm installs it into a root directory of its own and removes
-it."""
+"""The package for systems of rpm, as rpm installs it into a root of its own and removes it."""
 from __future__ import annotations
 
 import os

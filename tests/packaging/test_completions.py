@@ -1,5 +1,4 @@
-"""Completions: every subcommand has its options in every shell, those that its help names, and the
-shells read them."""
+"""Completions: every shell reads them, and has each subcommand with the options of its help."""
 from __future__ import annotations
 
 import os
@@ -108,8 +107,7 @@ def ask_bash(trial: InstallTest, *words: str) -> list[str]:
 @slow
 class CompletionsTest(InstallTest):
     def test_files(self) -> None:
-        """Each subcommand has its options in the files of zsh and fish, and the first line for zsh
-        names the commands."""
+        """zsh and fish have all options; zsh's first line names the commands."""
         found = texts(tree(self.first()))
         zsh, fish = found[ZSH], found[FISH]
         named = zsh.split("\n")[0].split()

@@ -164,8 +164,7 @@ class InstallingTest(InstallTest):
         self.assertEqual((done.status, "nothing is installed" in done.error_text), (1, True), done)
 
     def test_interrupted(self) -> None:
-        """An installation that stopped half-way can be removed. A signal but SIGKILL leaves no
-        private directory either."""
+        """What stopped half-way can be removed. Only SIGKILL leaves a private directory."""
         source, folder = self.small_copy("damaged", "commands/lib", "docs"), self.path("half")
         shutil.copy(os.path.join(source, "VERSION"), os.path.join(source, "man", "zzz.1"))
         script = self.read("damaged/packaging/install")
@@ -313,8 +312,7 @@ class InstallingTest(InstallTest):
         self.refuses("a program that is not proved", unproved, done)
 
     def test_byte_code(self) -> None:
-        """packaging/install makes byte code below a prefix, keeps it in step with the modules, and
-        removes it with them."""
+        """Byte code is made below a prefix, is in step with the modules, and goes with them."""
         source, prefix = self.small_copy("coded", "contrib", "docs"), self.path("code")
         modules = os.path.join(source, "commands/lib/aide_compare")
         # Its text is edited when it is installed.

@@ -197,8 +197,7 @@ class PackagesTest(InstallTest):
             rpm.try_life(self, self.path("packages", self.of_rpm))
 
     def try_times(self) -> None:
-        """Of few files and small programs: a time that is given, and a tarball made without git
-        and dpkg-deb."""
+        """Of few files and small programs: a given time, and a tarball without git and dpkg-deb."""
         few: dict[str, Any] = {"source": self.small, "program": self.write("aide", "a program\n")}
         self.write("aide_lines", "another program\n")
         late = {**self.more, "SOURCE_DATE_EPOCH": str(LATE)}
@@ -212,8 +211,7 @@ class PackagesTest(InstallTest):
         self.assertTrue(same == files_of(self, dated[self.tarball], LATE), "without dpkg-deb")
 
     def try_elsewhere(self, first: dict[str, bytes]) -> None:
-        """Another place, umask, shell, language, time zone or user make no difference, and no
-        temporary file is left."""
+        """No place, umask, shell, language, time zone or user matters; nothing is left."""
         place = self.path("other place")
         os.makedirs(place)
         os.chmod(place, 0o777)

@@ -53,8 +53,7 @@ def of_mode(columns: str, *entries: str) -> str:
 
 
 class Case(NamedTuple):
-    """A configuration and two databases, with the statuses wanted of AIDE and of the program, and
-    expressions that their outputs fit."""
+    """A configuration and databases, and the statuses and outputs of AIDE and of the program."""
 
     name: str
     statuses: Pair[int]

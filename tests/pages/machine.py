@@ -165,8 +165,7 @@ class MachineTest(ScratchTest):
         return {**os.environ, **own, "EXAMPLES": os.path.join(TOP, "examples")}
 
     def run_words(self, words: list[str], rights: int | None = None) -> Answer:
-        """Runs a command: its status, output and errors, with the root taken out. `rights`: a
-        user's number to run as, if this is root."""
+        """What a command answers, the root taken out. `rights`: a user to run as, if root."""
         if rights is not None and os.geteuid() == 0:
             number = str(rights)
             words = ["setpriv", "--reuid", number, "--regid", number, "--clear-groups", *words]
@@ -188,9 +187,8 @@ class MachineTest(ScratchTest):
         return self.run_words(["bash", "-c", self.below(text)], rights)
 
     def unit_commands(self) -> list[str]:
-        """What the services of systemd start: the comparison, and then the sending. The files in a
-        directory beside a unit come last, and an ExecStart= without a command takes back those
-        before it."""
+        """What the services of systemd start: the comparison, then the sending. The files beside a
+        unit come last, and an ExecStart= without a command takes back those before it."""
         commands = []
         for name in ("aide-compare.service", "aide-compare-mail.service"):
             drop_ins = sorted(glob.glob(self.path(f"/etc/systemd/system/{name}.d/*.conf")))

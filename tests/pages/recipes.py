@@ -29,8 +29,7 @@ CHECK = "/usr/local/lib/nagios/plugins/check_aide_compare"
 METRICS = "/var/lib/prometheus/node-exporter/aide-compare.prom"
 OLD = HEAD + "/b 36 40755 4096\n/c 36 100644 10\n@@end_db\n"
 NEW = HEAD + "/a%20%C3%A9 36 100644 5\n/c 36 100600 7\n@@end_db\n"
-# A night in which only logs, a cache and AIDE's own database have changed, and one with an
-# intruder.
+# A night in which only logs, a cache and AIDE's own database have changed, and an intruder's.
 LOGS = ["/var/log/auth.log", "/var/log/kern.log", "/var/log/syslog"]
 PLAIN = [
     "/etc/passwd",
@@ -126,8 +125,7 @@ class RecipesTest(MachineTest):
 
 
 class Day:
-    """One day of a watched host: every way of asking says what the counts ask for; None if the day
-    is to be quiet."""
+    """One day of a host: every way of asking says what the counts do; None is a quiet day."""
 
     def __init__(self, test: RecipesTest, counts: tuple[int, int, int] | None) -> None:
         self.test, self.counts = test, counts

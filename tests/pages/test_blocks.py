@@ -18,8 +18,7 @@ from aide_compare.base.options import COMPARISON_DEFAULTS, MAIL_DEFAULTS
 from aide_compare.commands.status import check
 
 HEAD = "@@begin_db\n@@db_spec name perm size atime inode\n"
-# One entry is removed, one added, and two are changed: /c can be written by everybody, of /d only
-# atime and inode differ.
+# One is removed, one added, two are changed: all can write /c; of /d only atime and inode differ.
 OLD = HEAD + "/b 40755 4096 MA== 1\n/c 100644 10 MA== 2\n/d 100600 1 MA== 3\n@@end_db\n"
 NEW = HEAD + "/a 100644 5 MA== 4\n/c 100646 10 MA== 2\n/d 100600 1 MQ== 5\n@@end_db\n"
 FRESH = ("/tmp", "/root", "/srv/aide", "/etc/aide-compare", "/var/lib/aide", STORE)

@@ -1,5 +1,4 @@
-"""The recipes of docs/MONITORING.md for two databases, and whether each recipe of the pages is
-tried."""
+"""The recipes of docs/MONITORING.md for two databases, and whether each recipe is tried."""
 from __future__ import annotations
 
 import glob

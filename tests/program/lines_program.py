@@ -1,5 +1,4 @@
-"""What each test of the program of lines shares: its answer beside the definitions and beside the
-report over the same words."""
+"""What tests of the program of lines share: its answer beside the definitions and the report."""
 from __future__ import annotations
 
 import json

@@ -1,5 +1,4 @@
-"""Random sessions: a configuration, a command line and two databases. Session NUMBER of a seed is
-always the same one."""
+"""Random sessions: configuration, words and two databases; NUMBER of a seed is always the same."""
 from __future__ import annotations
 
 import os

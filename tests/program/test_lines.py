@@ -17,8 +17,7 @@ from tests.program.real_files.test_devices import check_outputs
 from tests.program.real_files.folder import EMPTY, NEW, OLD, Folder
 from tests.program.real_files.test_outside import check_file_sizes
 
-# Of names with each byte: alone, behind a letter, and behind the first byte of a character of two,
-# three or four.
+# Names with each byte: alone, behind a letter, and behind the first of a character of 2, 3 or 4.
 FRONTS = [b"", b"x", b"\xc3", b"\xe2\x80", b"\xf0\x9f\x98"]
 
 

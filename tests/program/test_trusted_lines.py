@@ -78,8 +78,7 @@ class TrustedTest(LinesProgramTest):
             self.add(f"the schema at {line}", VALIDATOR.faults(line))
 
     def test_accounts(self) -> None:
-        """Whether the entry that a trusted machine has accounts for one that came; turned round the
-        answer is the same."""
+        """Whether a trusted entry accounts for one that came; turned round it is the same."""
         for columns, one, other, is_same in line_rows.ACCOUNTS:
             sides = [database(columns, b" ".join(fields)) for fields in (one, other)]
             for came, trusted in (sides, sides[::-1]):

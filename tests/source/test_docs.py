@@ -1,5 +1,4 @@
-"""What the pages of this repository name: links, files, code that was copied in, clauses, tables of
-files."""
+"""What the pages of this repository name: links, files, copied code, clauses, tables of files."""
 from __future__ import annotations
 
 import glob
@@ -40,8 +39,7 @@ def tracked() -> list[str]:
 
 def is_there(name: str, paths: list[str]) -> bool:
     """Whether a file or a folder of the repository has this name, or one that ends with it.
-    packaging/install puts the folders of contrib/ that are examples into examples/ beside the
-    documents."""
+    packaging/install puts the examples of contrib/ into examples/ beside the documents."""
     names = (name, name.replace("examples/", "contrib/", 1))
     return any(f"/{each}/" in f"/{path}/" for path in paths for each in names)
 

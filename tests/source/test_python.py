@@ -1,6 +1,5 @@
-"""How the Python of this repository is written: `mypy --strict` and pyflakes find no fault in
-commands/, tests/, tools/ and bench/, and black would change none of them. pyflakes reads packaging/
-too."""
+"""How the Python here is written: mypy --strict, pyflakes and black find nothing to change in
+commands/, tests/, tools/ and bench/, and pyflakes nothing in packaging/."""
 from __future__ import annotations
 
 import shutil

@@ -1,5 +1,4 @@
-"""What packages' records say of paths and contents, of which packages, and who may have written
-them; where a link points."""
+"""What packages' records say of paths and contents, and who may write them; where links point."""
 from __future__ import annotations
 
 import hashlib

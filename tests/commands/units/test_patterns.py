@@ -65,8 +65,7 @@ class PatternsTest(unittest.TestCase):
                 Pattern(text)
 
     def test_hostile(self) -> None:
-        """A hostile path costs no more than its length times that of the pattern. More would take
-        years, and is ended here."""
+        """A hostile path costs at most its length times the pattern's; more would take years."""
         words = [sys.executable, "-c", HOSTILE, os.path.join(TOP, "commands", "lib")]
         done = subprocess.run(words, capture_output=True)
         self.assertEqual((done.returncode, done.stdout), (0, b"False False\n"), done)

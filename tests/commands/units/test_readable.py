@@ -1,5 +1,4 @@
-"""Values of attributes as people read them: a table of what real tools printed, and values of
-hostile sizes."""
+"""Values of attributes as people read them: as real tools print them, and of hostile sizes."""
 from __future__ import annotations
 
 import time
@@ -10,8 +9,7 @@ from aide_compare.lines.change import Value
 from aide_compare.lines.readable import decoded
 
 # What AIDE 0.18.3 kept of files on ext4 (Debian 12, 2026-11-25), and what these printed of the same
-# files: getfacl 2.3.1, getfattr 2.5.1, lsattr of e2fsprogs 1.47.0, ls -Z's
-# label as it was set.
+# files: getfacl 2.3.1, getfattr 2.5.1, lsattr of e2fsprogs 1.47.0, ls -Z's label as it was set.
 TABLE: list[tuple[str, Value, str | None]] = [
     (
         "ACL",

@@ -1,5 +1,4 @@
-"""The table of changes, its failures, what a text lists of it; where a path leads, and values of
-a page."""
+"""The table of changes, its failures, what a text lists of it; where paths lead; page values."""
 from __future__ import annotations
 
 import fcntl

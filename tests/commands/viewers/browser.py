@@ -21,8 +21,7 @@ SECONDS = 120
 
 
 class Browser:
-    """A browser with one page. `faults` has what it has complained of: errors, and breaches of the
-    content policy."""
+    """A browser with one page; `faults` has its errors and breaches of the content policy."""
 
     def __init__(self) -> None:
         self.folder = tempfile.mkdtemp(prefix="page-")

@@ -1,5 +1,4 @@
-"""Entries with names and values that could be taken for something else: for markup, or for text
-that is escaped already."""
+"""Entries whose names and values could be taken for markup, or for text that is escaped already."""
 from __future__ import annotations
 
 import random
@@ -52,8 +51,7 @@ def random_entry(pick: random.Random, most: int) -> Entry:
 
 
 def edited(pick: random.Random, entry: Entry) -> Entry:
-    """An entry with some attributes changed, added or removed; sometimes with all of them added or
-    removed."""
+    """An entry with some attributes changed, added or removed; sometimes all added or removed."""
     if pick.random() < 0.15:
         every = {attribute.name: random_value(pick, attribute.form) for attribute in ATTRIBUTES}
         return pick.choice([{}, every, {**every, "ftype": entry.get("ftype", 0o100000)}])

@@ -1,5 +1,4 @@
-"""A validator of the part of JSON Schema (draft 2020-12) that contrib/json uses. A keyword that it
-does not know is a fault."""
+"""A validator of what contrib/json uses of JSON Schema (2020-12); any other keyword is a fault."""
 from __future__ import annotations
 
 import json

@@ -1,5 +1,4 @@
-"""Configurations of just the greatest depth, length and number of names, and beyond: the first
-fault, or none."""
+"""Configurations of the greatest depth, length and number of names, and beyond: a fault or none."""
 
 # `A12` has 4,096 times x.
 DOUBLED = b"@@define A0 x\n" + b"".join(
@@ -49,6 +48,5 @@ ACCEPTED = [
     GROUPS,
 ]
 
-# Without a fault too, and so long that the definitions, which look back from each line, would take
-# hours.
+# Without a fault too, and so long that the definitions, which look back, would take hours.
 WHOLE = [b"report_quiet=yes\n" * 246723, b"\n" * 4194304]

@@ -1,5 +1,4 @@
-"""Random pairs of databases: all columns, all forms of fields, edits between the two, and faults of
-every kind."""
+"""Random pairs of databases: all columns and forms of fields, edits, and faults of every kind."""
 from __future__ import annotations
 
 import base64

@@ -13,8 +13,7 @@ from tests.program.lines_program import LinesProgramTest
 
 OLD = b"@@begin_db\n@@db_spec name attr perm size\n/b 36 40755 4096\n/c 36 100644 10\n@@end_db\n"
 NEW = b"@@begin_db\n@@db_spec name attr perm size\n/a 36 100644 5\n/c 36 100600 7\n@@end_db\n"
-# The databases by the names of their files, in the order in which they are opened, and what a fault
-# calls them.
+# The databases by their files, in the order in which they are opened, and what a fault calls them.
 FILES = ["old", "new", "trusted_old", "trusted_new"]
 NAMES = [b"old", b"new", b"trusted old", b"trusted new"]
 EMPTY = b"@@begin_db\n@@db_spec name\n@@end_db\n"

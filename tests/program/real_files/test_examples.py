@@ -52,8 +52,7 @@ def counted(output: bytes) -> dict[str, int | None]:
 
 class ExamplesTest(ProgramTest):
     def test_written_by_aide(self) -> None:
-        """Databases that AIDE has written: its counts and status, nothing skipped, and the report
-        of the definitions."""
+        """What AIDE wrote: its counts and status, nothing skipped, the definitions' report."""
         self.add("examples by AIDE", [] if folders_of_aide() else ["there is none in " + EXAMPLES])
         for folder in folders_of_aide():
             label = "examples/" + os.path.basename(folder)

@@ -1,5 +1,4 @@
-"""Databases that come through FIFOs: each opening can be given a text of its own, and the openings
-are counted."""
+"""Databases through FIFOs: each opening can be given its own text, and openings are counted."""
 from __future__ import annotations
 
 import contextlib
@@ -82,8 +81,7 @@ class Feeder:
 def fed(
     program: bytes, words: list[bytes], texts: dict[bytes, list[bytes]]
 ) -> tuple[Answer, list[int]]:
-    """The answer of the program, and how often it opened each database; `texts` has the texts of
-    each by its path."""
+    """The program's answer, and how often it opened databases; `texts`: those of each path."""
     with contextlib.ExitStack() as stack:
         feeders = [stack.enter_context(Feeder(path, each)) for path, each in texts.items()]
         answer = run("timeout", [WAIT, program, *words])

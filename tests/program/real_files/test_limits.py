@@ -1,5 +1,4 @@
-"""Databases cut at each byte, lines of just the greatest length, and command lines of many, long,
-empty and blank arguments."""
+"""Databases cut at each byte, lines of the greatest length, and many or odd arguments."""
 from __future__ import annotations
 
 from tests.lib.answer import Answer, shown
@@ -8,8 +7,7 @@ from tests.oracle.database import LINE_LIMIT
 
 from .folder import OLD, FolderTest
 
-# The first fault of the old database cut after so many bytes: the last length with this fault, its
-# line, its words.
+# The first fault of the old database cut after so many bytes: the last length with it, line, words.
 CUTS = [
     (9, 1, b"no @@begin_db"),
     (11, 2, b"no @@end_db"),

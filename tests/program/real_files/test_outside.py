@@ -28,8 +28,7 @@ def limited(what: int, most: int) -> Callable[[], None]:
 def check_file_sizes(
     test: ProgramTest, label: str, program: bytes, words: list[bytes], want: Answer, step: int
 ) -> None:
-    """An output that goes to a file which may not grow over so many bytes: the last write before is
-    cut short."""
+    """An output to a file that may not grow over so many bytes: the last write is cut short."""
     size = len(want.output)
     with Folder() as folder:
         for most in [*range(0, size, step), size - 1, size]:
@@ -74,8 +73,7 @@ class OutsideTest(ProgramTest):
                 self.add("a line of 32 MB", faults)
 
     def test_large_files(self) -> None:
-        """Sparse files that are larger than the memory, which are read whole or as far as a
-        configuration may reach."""
+        """Sparse files beyond the memory, read whole or as far as a configuration may reach."""
         same = b"AIDE found NO differences between the two databases.\n"
         with Folder() as folder:
             folder.pair(NEW, NEW, MINIMAL)
