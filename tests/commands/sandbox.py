@@ -112,9 +112,8 @@ class CommandTest(ScratchTest):
         os.chmod(self.room, 0o1777)
         os.makedirs(self.path("libexec/aide-compare"))
         self.program = shutil.copy(program, self.path("libexec/aide-compare/aide"))
-        self.lines_program = shutil.copy(
-            lines_program_of(program), self.path("libexec/aide-compare/aide_lines")
-        )
+        lines = self.path("libexec/aide-compare/aide_lines")
+        self.lines_program = shutil.copy(lines_program_of(program), lines)
         for path in (self.program, self.lines_program):
             os.chmod(path, 0o755)
         for name in ("bin", "lib", "share"):
@@ -134,15 +133,13 @@ class CommandTest(ScratchTest):
 
     def set_names(self, module: str, **values: object) -> None:
         """Gives names of a module, which have to be there, other values in the test's commands."""
-        self.after_import(
-            module, "".join(f"{name}\n{name} = {value!r}\n" for name, value in values.items())
-        )
+        statements = [f"{name}\n{name} = {value!r}\n" for name, value in values.items()]
+        self.after_import(module, "".join(statements))
 
     def after_import(self, module: str, statements: str) -> None:
         """Statements that a command of this test executes in a module when it has been imported."""
-        self.replaced[f"aide_compare.{module}"] = (
-            self.replaced.get(f"aide_compare.{module}", "") + statements
-        )
+        name = f"aide_compare.{module}"
+        self.replaced[name] = self.replaced.get(name, "") + statements
         self.write("replaced", repr(self.replaced))
 
     @contextlib.contextmanager
@@ -167,12 +164,8 @@ class CommandTest(ScratchTest):
         return [self.path("bin/" + name), *subcommand, *words]
 
     def environment(self, **more: str) -> dict[str, str]:
-        return {
-            **os.environ,
-            "TMPDIR": self.room,
-            "PATH": self.path("stubs") + ":" + os.environ["PATH"],
-            **more,
-        }
+        path = self.path("stubs") + ":" + os.environ["PATH"]
+        return {**os.environ, "TMPDIR": self.room, "PATH": path, **more}
 
     def start(
         self,
@@ -183,16 +176,11 @@ class CommandTest(ScratchTest):
         **more: Any,
     ) -> subprocess.Popen[bytes]:
         """Starts a tool in this folder, without waiting for it."""
-        more = {
-            "stdin": subprocess.DEVNULL,
-            "stdout": subprocess.PIPE,
-            "stderr": subprocess.PIPE,
-            **more,
-        }
+        pipes = {"stdout": subprocess.PIPE, "stderr": subprocess.PIPE}
+        streams: dict[str, Any] = {"stdin": subprocess.DEVNULL, **pipes, **more}
         command = after(before, self.command(tool, *words))
-        return subprocess.Popen(
-            command, cwd=self.root, env=self.environment(**(environment or {})), **more
-        )
+        given = self.environment(**(environment or {}))
+        return subprocess.Popen(command, cwd=self.root, env=given, **streams)
 
     def call(
         self,
@@ -219,13 +207,8 @@ class CommandTest(ScratchTest):
         self, tool: str, *words: str, environment: dict[str, str] | None = None, **streams: Any
     ) -> Terminal:
         """A tool in this folder on a terminal."""
-        environment = {"TERM": "xterm", **(environment or {})}
-        return Terminal(
-            self.command(tool, *words),
-            cwd=self.root,
-            env=self.environment(**environment),
-            **streams,
-        )
+        given = self.environment(**{"TERM": "xterm", **(environment or {})})
+        return Terminal(self.command(tool, *words), cwd=self.root, env=given, **streams)
 
     def leftovers(self) -> list[str]:
         return os.listdir(self.room)

@@ -282,7 +282,8 @@ class BrowserTest(CommandTest):
     def test_policy(self) -> None:
         """A script or a style that somebody added does not run."""
         text = self.read(os.path.basename(self.page(upgrade()))).decode()
-        self.browser.open(self.write("added.html", text.replace("</header>", "</header>" + ADDED)))
+        path = self.write("added.html", text.replace("</header>", "</header>" + ADDED))
+        self.browser.open(path)
         self.shows("document.title === 'ran'", False)
         red = "getComputedStyle(document.getElementById('loud')).color === 'rgb(255, 0, 0)'"
         self.shows(red, False)

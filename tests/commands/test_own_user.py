@@ -5,6 +5,7 @@ import os
 import shutil
 import subprocess
 
+from tests.lib.answer import run
 from tests.lib.program_test import slow
 from tests.lib.copies import COMPILED, copy_sources
 from tests.lib.programs import VARIABLE
@@ -33,14 +34,8 @@ class OwnUserTest(CommandTest):
         program = shutil.copy(self.program, self.path("programs/aide"))
         shutil.copy(self.lines_program, self.path("programs/aide_lines"))
         words = [PYTHON, "-m", "unittest", *("tests.commands." + name for name in TESTS)]
-        done = subprocess.run(
-            after(AS_NOBODY, words),
-            cwd=directory,
-            env={**os.environ, VARIABLE: program, "TMPDIR": self.room, COMPILED: ""},
-            stdin=subprocess.DEVNULL,
-            stdout=subprocess.PIPE,
-            stderr=subprocess.STDOUT,
-            check=False,
-        )
-        self.assertEqual(done.returncode, 0, done.stdout.decode("utf-8", "replace"))
-        self.assertIn(b"\nOK (skipped=2)\n", done.stdout, "parts of two tests need root")
+        python, *words = after(AS_NOBODY, words)
+        given = {**os.environ, VARIABLE: program, "TMPDIR": self.room, COMPILED: ""}
+        done = run(python, words, cwd=directory, env=given, stderr=subprocess.STDOUT)
+        self.assertEqual(done.status, 0, done.output_text)
+        self.assertIn(b"\nOK (skipped=2)\n", done.output, "parts of two tests need root")

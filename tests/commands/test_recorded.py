@@ -4,7 +4,6 @@ from __future__ import annotations
 import hashlib
 import os
 import random
-import subprocess
 import sys
 from typing import Any
 
@@ -14,6 +13,7 @@ from tests.commands.made_up import DIRECTORY_BITS, MORE_ACL, Host, Package, acl_
 from tests.commands.made_up import standings_of
 from tests.commands.sandbox import END, CommandTest
 from tests.commands.test_sorting import MEASURE
+from tests.lib.answer import run
 from tests.lib.program_test import slow
 
 ONE, TWO, EVIL = b"one", b"two, of the upgraded package", b"EVIL"
@@ -301,9 +301,7 @@ class ManyTest(CommandTest):
 
     def peak(self, *words: str) -> int:
         """The most memory of a process of a command, in kB."""
-        measured = [sys.executable, "-IS", "-c", MEASURE, *self.command("aide-compare", *words)]
-        done = subprocess.run(
-            measured, cwd=self.root, env=self.environment(), capture_output=True, check=False
-        )
-        self.assertEqual(done.returncode, 4, done.stderr)
-        return int(done.stderr.split()[-1])
+        measured = ["-IS", "-c", MEASURE, *self.command("aide-compare", *words)]
+        done = run(sys.executable, measured, cwd=self.root, env=self.environment())
+        self.assertEqual(done.status, 4, done)
+        return int(done.errors.split()[-1])

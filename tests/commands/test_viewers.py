@@ -197,8 +197,6 @@ class ViewersTest(ProgramTest):
         ]
         values = ",".join(view.rstrip().rstrip(";") for view in views)
         text = f"console.log(JSON.stringify([{values}]))"
-        done = subprocess.run(
-            ["node", "-"], input=text.encode(), stdout=subprocess.PIPE, check=True
-        )
-        for case, (found, view) in zip(table["cases"], json.loads(done.stdout)):
+        shown = subprocess.check_output(["node", "-"], input=text.encode())
+        for case, (found, view) in zip(table["cases"], json.loads(shown)):
             self.assertEqual((found, view), (case["found"], case.get("text", case["view"])), case)

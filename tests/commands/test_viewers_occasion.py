@@ -5,13 +5,12 @@ import json
 import os
 import re
 import shlex
-import subprocess
 from typing import Any
 
 from tests.commands.sandbox import CommandTest
 from tests.commands.viewers.lines import proved_lines
 from tests.commands.viewers.schema import Validator, schema_of_lines
-from tests.lib.answer import Answer
+from tests.lib.answer import Answer, run
 from tests.lib.scratch import TOP
 
 from aide_compare.lines.change import change_of
@@ -110,10 +109,10 @@ class OccasionTest(CommandTest):
                 answer = self.call(tool, OLD, NEW, stdout=full)
             self.expect("a full device", answer, DEVICE, None, b"No space left")
             for closed in (">&-", ">&- 2>&-"):
-                run = ["sh", "-c", f"{shlex.join(self.command(tool, OLD, NEW))} {closed}"]
-                done = subprocess.run(run, env=self.environment(), capture_output=True)
-                found = (done.returncode, done.stdout, b"Traceback" in done.stderr)
-                self.assertEqual(found, (DEVICE, b"", False), (closed, done.stderr))
+                command = f"{shlex.join(self.command(tool, OLD, NEW))} {closed}"
+                done = run("sh", ["-c", command], env=self.environment())
+                found = (done.status, done.output, b"Traceback" in done.errors)
+                self.assertEqual(found, (DEVICE, b"", False), (closed, done))
 
     def test_refused(self) -> None:
         for status, errors, words in (

@@ -15,7 +15,7 @@ import sys
 from typing import Any
 from urllib.parse import unquote_to_bytes
 
-from tests.lib.answer import Answer
+from tests.lib.answer import Answer, run
 from tests.lib.scratch import Scratch
 from tests.lib.tally import Tally
 from tests.pages.cases_beside_aide import A, BOTH, CASES, CONFIGURATION, RULES, TYPE, Case
@@ -41,9 +41,7 @@ class Trial(Scratch, Tally):
         self.program = os.path.abspath(program)
 
     def run(self, program: str, words: list[str], **more: Any) -> Answer:
-        streams: dict[str, Any] = {"stdin": subprocess.DEVNULL, "stdout": subprocess.PIPE, **more}
-        done = subprocess.run([program, *words], cwd=self.root, stderr=subprocess.PIPE, **streams)
-        return Answer(done.stdout or b"", done.stderr, done.returncode)
+        return run(program, words, cwd=self.root, **more)
 
     def put(self, case: Case) -> list[str]:
         """Writes a case's files, and gives its words."""

@@ -15,7 +15,7 @@ import subprocess
 import tempfile
 
 from tests.lib import apart
-from tests.lib.answer import Answer
+from tests.lib.answer import Answer, run
 from tests.lib.copies import compile_modules
 from tests.lib.program_test import ScratchTest
 from tests.lib.programs import find_program, lines_program_of
@@ -30,7 +30,6 @@ DIRECTORIES = (
 NAMED = re.compile(r"(?<![\w/])(%s)(?![\w.-])" % "|".join(DIRECTORIES))
 LIBRARY = "lib/aide-compare/python"
 NOBODY = 65534
-SECONDS = 600
 HEAD = "@@begin_db\n@@db_spec name attr perm size\n"
 STORE = "/var/lib/aide-compare"
 STATE = STORE + "/daily/state"
@@ -169,18 +168,9 @@ class MachineTest(ScratchTest):
         if rights is not None and os.geteuid() == 0:
             number = str(rights)
             words = ["setpriv", "--reuid", number, "--regid", number, "--clear-groups", *words]
-        done = subprocess.run(
-            words,
-            cwd=self.path("/tmp"),
-            env=self.environment(),
-            stdin=subprocess.DEVNULL,
-            capture_output=True,
-            timeout=SECONDS,
-            check=False,
-        )
+        done = run(words[0], words[1:], cwd=self.path("/tmp"), env=self.environment())
         root = os.fsencode(self.root)
-        output = done.stdout.replace(root, b"")
-        return Answer(output, done.stderr.replace(root, b""), done.returncode)
+        return Answer(done.output.replace(root, b""), done.errors.replace(root, b""), done.status)
 
     def shell(self, text: str, rights: int | None = None) -> Answer:
         """Runs the text of a block as it stands, with its directories below the root."""

@@ -45,7 +45,8 @@ class Browser:
         self.write, self.read, self.session = write, read, None
         targets = self.ask("Target.getTargets")["targetInfos"]
         number = next(target["targetId"] for target in targets if target["type"] == "page")
-        self.session = self.ask("Target.attachToTarget", targetId=number, flatten=True)["sessionId"]
+        attached = self.ask("Target.attachToTarget", targetId=number, flatten=True)
+        self.session = attached["sessionId"]
         for domain in ("Page", "Runtime", "Log"):
             self.ask(domain + ".enable")
         self.ask("Performance.enable", timeDomain="threadTicks")
