@@ -25,6 +25,7 @@ OF_VARIABLES = [
     b"@@{B}report_grouped=no",
     b"report_force_attrs=@@{V_1}+s",
 ]
+DEEP = b"@@ifdef A|@@ifndef A|@@if defined A|@@if not defined NOPE".split(b"|")
 OPENINGS = b"@@ifdef |@@ifndef |@@if defined |@@if not defined |@@if\tnot  defined\t".split(b"|")
 # Words that are not understood behind a good command line; `PATH` stands for its configuration.
 BAD_WORDS = (
@@ -57,14 +58,10 @@ def random_option(pick: random.Random) -> tuple[bytes, bytes]:
         return name.encode(), pick.choice([b"yes", b"no", b"true", b"false"])
     if name in SET_OPTIONS:
         return name.encode(), random_expression(pick)
-    return pick.choice(
-        [
-            (b"report_format", b"plain"),
-            (b"report_url", b"stdout"),
-            (b"report_url", b"syslog:LOG_AUTH"),
-            (pick.choice(WITHOUT_EFFECT).encode(), b"anything = at all"),
-        ]
-    )
+    others = [(b"report_format", b"plain"), (b"report_url", b"stdout")]
+    others.append((b"report_url", b"syslog:LOG_AUTH"))
+    others.append((pick.choice(WITHOUT_EFFECT).encode(), b"anything = at all"))
+    return pick.choice(others)
 
 
 def random_line(pick: random.Random) -> bytes:
@@ -104,9 +101,7 @@ def random_text(pick: random.Random, bad: float) -> bytes:
     if pick.random() < bad:
         lines.insert(pick.randint(0, len(lines)), pick.choice(BAD_LINES))
     if pick.random() < bad / 8:
-        opening = pick.choice(
-            [b"@@ifdef A", b"@@ifndef A", b"@@if defined A", b"@@if not defined NOPE"]
-        )
+        opening = pick.choice(DEEP)
         depth = pick.choice([32, 33])
         lines = [opening] * depth + lines + [b"@@endif"] * depth
     return b"\n".join(lines) + pick.choice([b"\n", b"\n", b""])

@@ -42,9 +42,8 @@ BAD_FIELDS = {
     for said in ("bad number", "bad time", "bad digest")
 }
 BAD_MODES = [field for column, field, _ in REFUSED if column == b"perm"]
-BREAKS = "cut byte drop double exchange order more less name spec stray long".split() + 6 * [
-    "field"
-]
+BREAKS = "cut byte drop double exchange order more less name spec stray long".split()
+BREAKS += 6 * ["field"]
 BAD_SPECS = [b"", b" size", b" name name", b" name size size", b" name" + b" x" * 64, b" Name size"]
 STRAYS = b"@@begin_db|@@db_spec name|@@foo|@@|@@end_dbx|@@end_db|@ x|/a|x".split(b"|")
 
@@ -57,9 +56,8 @@ def random_digest(pick: random.Random, least: int, most: int) -> bytes | None:
     if pick.random() < 0.3:
         return None
     size = pick.randint(least, most)
-    return pick.choice(
-        [bytes(size), b"\xab" * size, bytes(pick.getrandbits(8) for _ in range(size))]
-    )
+    other = bytes(pick.getrandbits(8) for _ in range(size))
+    return pick.choice([bytes(size), b"\xab" * size, other])
 
 
 def random_value(pick: random.Random, form: Form) -> Any:
@@ -165,18 +163,13 @@ def line_of(pick: random.Random, columns: Columns, path: bytes, row: Row) -> byt
             fields.append(escaped(pick, path))
         elif form == "attr":
             fields.append(b"%d" % row[b"attr"])
+        elif form == "unknown":
+            fields.append(pick.choice([b"x", b"0", b"\xff"]))
         else:
-            fields.append(
-                pick.choice([b"x", b"0", b"\xff"])
-                if form == "unknown"
-                else spelled(pick, form, row[column])
-            )
+            fields.append(spelled(pick, form, row[column]))
     blank = pick.choice([b" ", b" ", b" ", b"\t", b"  \t"])
-    return (
-        pick.choice([b"", b"", b"", b" "])
-        + blank.join(fields)
-        + pick.choice([b"", b"", b" ", b"\t"])
-    )
+    front = pick.choice([b"", b"", b"", b" "])
+    return front + blank.join(fields) + pick.choice([b"", b"", b" ", b"\t"])
 
 
 def lines_of_database(pick: random.Random, columns: Columns, entries: Rows) -> list[bytes]:
@@ -185,9 +178,8 @@ def lines_of_database(pick: random.Random, columns: Columns, entries: Rows) -> l
     lines += [line_of(pick, columns, path, entries[path]) for path in sorted(entries, key=order_of)]
     lines.append(pick.choice([b"@@end_db", b"@@end_db", b" @@end_db x"]))
     for _ in range(pick.choice([0, 0, 0, 1, 3])):
-        lines.insert(
-            pick.randint(0, len(lines)), pick.choice([b"", b" \t", b"# comment", b"\t#", b"#"])
-        )
+        place = pick.randint(0, len(lines))
+        lines.insert(place, pick.choice([b"", b" \t", b"# comment", b"\t#", b"#"]))
     return lines
 
 

@@ -24,6 +24,7 @@ NAMED = [b"a", b"b", b"*", b"**", b"?", b"[a-c]", b"[!a]*", b"\\a", b"\\*", b".*
 NAMED += [b"?\xff", b"[]a]", b"[.]a", b"\\.a", b"?a", b".?", b"*b*c", b"[^b-]", b"@*"]
 FAULTY = [b"a", b"/a**", b"/a\\", b"/[a", b"/[!]", b"/[b-a]", b"programs() /a", b"programs(a) a"]
 FAULTY += [b"programs(x)/a", b"programs(a(b) /a"]
+BAD_WORDS = b"--trusted-old|--trusted-new x|--trusted|--trusted-old=|-t".split(b"|")
 CONTENTS = [bytes([number] * 32) for number in range(3)]
 
 
@@ -80,9 +81,8 @@ def random_four(pick: random.Random) -> list[bytes]:
     columns = usual_columns(pick)
     old = usual_entries(pick, columns)
     new = edited(pick, columns, old)
-    new.update(
-        in_own_state(pick, columns, {path: row for path, row in new.items() if pick.random() < 0.5})
-    )
+    some = {path: row for path, row in new.items() if pick.random() < 0.5}
+    new.update(in_own_state(pick, columns, some))
     trusted = [in_own_state(pick, columns, edited(pick, columns, side)) for side in (old, new)]
     other = columns if pick.random() < 0.8 else usual_columns(pick)
     often = pick.choice([0, 0, 0.1])
@@ -117,15 +117,7 @@ def random_words_beside(
         if pick.random() < 0.98:
             trusted += pick.choice([[option, path], [option + b"=" + path]])
     if pick.random() < bad / 4:
-        trusted += pick.choice(
-            [
-                [b"--trusted-old"],
-                [b"--trusted-new", b"x"],
-                [b"--trusted"],
-                [b"--trusted-old="],
-                [b"-t"],
-            ]
-        )
+        trusted += pick.choice(BAD_WORDS).split(b" ")
     if pick.random() < 0.6:
         trusted += [b"--without=" + random_list(pick)]
     words = random_words(pick, config, bad)
