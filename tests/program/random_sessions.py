@@ -1,6 +1,7 @@
 """Random sessions: configuration, words and two databases; NUMBER of a seed is always the same."""
 from __future__ import annotations
 
+import functools
 import os
 import random
 import shutil
@@ -74,10 +75,8 @@ def try_sessions(
 ) -> None:
     """Tries so many sessions, which `make` writes; the files of those that went wrong are kept."""
     top = tempfile.mkdtemp(prefix="sessions-").encode()
-    results = side_by_side(
-        jobs, lambda number: try_session(check, seed, number, top, make), numbers
-    )
-    for number, faults in zip(numbers, results):
+    trial = functools.partial(try_session, check, seed, top=top, make=make)
+    for number, faults in zip(numbers, side_by_side(jobs, trial, numbers)):
         tally.add("seed %d, session %d" % (seed, number), faults)
     if not os.listdir(top):
         os.rmdir(top)

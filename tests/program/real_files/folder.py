@@ -26,11 +26,8 @@ def database(columns: bytes, fields: bytes) -> bytes:
 
 
 def names(count: int) -> bytes:
-    return (
-        b"@@begin_db\n@@db_spec name\n"
-        + b"".join(b"/%06d\n" % number for number in range(count))
-        + b"@@end_db\n"
-    )
+    entries = b"".join(b"/%06d\n" % number for number in range(count))
+    return b"@@begin_db\n@@db_spec name\n" + entries + b"@@end_db\n"
 
 
 class Folder:
@@ -57,11 +54,8 @@ class Folder:
 
     def pair(self, old: bytes = OLD, new: bytes = NEW, options: bytes = b"") -> None:
         """Writes two databases and a configuration that names them."""
-        self.write(
-            "conf",
-            b"database_in=file:%s/old\ndatabase_new=file:%s/new\n%s"
-            % (self.path, self.path, options),
-        )
+        text = b"database_in=file:%s/old\ndatabase_new=file:%s/new\n%s"
+        self.write("conf", text % (self.path, self.path, options))
         self.write("old", old)
         self.write("new", new)
 
@@ -74,17 +68,9 @@ class Folder:
                 self.write(name, text)
             elif os.path.exists(self.at(name)):
                 os.unlink(self.at(name))
-        return self.words_beside() if len(texts) > 2 else self.words()
-
-    def words_beside(self, *more: bytes) -> list[bytes]:
-        """The words of a comparison beside the trusted pair."""
-        return self.words(
-            b"--trusted-old",
-            self.at("trusted_old"),
-            b"--trusted-new",
-            self.at("trusted_new"),
-            *more,
-        )
+        old, new = self.at("trusted_old"), self.at("trusted_new")
+        trusted = [b"--trusted-old", old, b"--trusted-new", new]
+        return self.words(*trusted) if len(texts) > 2 else self.words()
 
     def words(self, *more: bytes) -> list[bytes]:
         return [b"-E", b"-c", self.at("conf")] + list(more)

@@ -7,11 +7,10 @@ import re
 
 from tests.lib.answer import run
 from tests.lib.program_test import ProgramTest
+from tests.lib.scratch import TOP
 from tests.oracle.files import wanted
 
-EXAMPLES = os.path.realpath(
-    os.path.join(os.path.dirname(os.path.abspath(__file__)), "..", "..", "..", "examples")
-)
+EXAMPLES = os.path.join(TOP, "examples")
 LABELS = {
     "total": "Total number of entries",
     "added": "Added entries",
@@ -27,10 +26,8 @@ def words_for(folder: str) -> list[bytes]:
 
 def folders_of_aide() -> list[str]:
     """The folders with databases that AIDE has written."""
-    return sorted(
-        os.path.dirname(found)
-        for found in glob.glob(os.path.join(EXAMPLES, "*", "aide-counts.txt"))
-    )
+    found = glob.glob(os.path.join(EXAMPLES, "*", "aide-counts.txt"))
+    return sorted(os.path.dirname(path) for path in found)
 
 
 def told_by_aide(folder: str) -> tuple[int, dict[str, int]]:

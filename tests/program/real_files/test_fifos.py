@@ -117,8 +117,7 @@ class FifosTest(ProgramTest):
                 want = folder.wanted()
                 answer, openings = fed_pair(self.program, folder, [old], [new])
                 self.check("databases through FIFOs", answer, want)
-                is_right = openings == wanted
-                self.holds("openings of databases", is_right, (options, wanted, openings))
+                self.holds("openings of databases", openings == wanted, (options, wanted, openings))
 
     def test_changes(self) -> None:
         """A database that is another one, cut or damaged, from its second or a later opening on."""
@@ -126,23 +125,14 @@ class FifosTest(ProgramTest):
             folder.pair()
             report = folder.wanted().output
             for side, text in ((b"old", OLD), (b"new", NEW)):
-                for other in (
-                    OTHER,
-                    text[:-9],
-                    text[:40],
-                    b"",
-                    text + b"#",
-                    text.replace(b"/c", b"/d"),
-                    UNSORTED,
-                ):
+                others = [OTHER, UNSORTED, text[:-9], text[:40], b"", text + b"#"]
+                for other in (*others, text.replace(b"/c", b"/d")):
                     for number in range(2, 7):
                         texts = [text] * (number - 1) + [other]
                         pair = (texts, [NEW]) if side == b"old" else ([OLD], texts)
                         answer, _ = fed_pair(self.program, folder, *pair)
-                        self.add(
-                            "a database changed from an opening on",
-                            change_faults(answer, side, number, report),
-                        )
+                        faults = change_faults(answer, side, number, report)
+                        self.add("a database changed from an opening on", faults)
 
     def test_late_changes(self) -> None:
         """A long report of which pages have gone out before a change shows: they begin with the

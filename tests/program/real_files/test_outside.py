@@ -4,6 +4,7 @@ from __future__ import annotations
 import os
 import resource
 from collections.abc import Callable
+from typing import Any
 
 from tests.lib.answer import Answer, difference, run
 from tests.lib.program_test import ProgramTest, slow
@@ -93,17 +94,14 @@ class OutsideTest(ProgramTest):
             folder.pair()
             gone = folder.at("gone")
             os.mkdir(gone)
-            self.check("other surroundings", folder.run(self.program, env={}), folder.wanted())
-            self.check(
-                "other surroundings",
-                folder.run(self.program, preexec_fn=lambda: os.close(0)),
-                folder.wanted(),
-            )
-            self.check(
-                "other surroundings",
-                folder.run(self.program, cwd=gone, preexec_fn=lambda: os.rmdir(gone)),
-                folder.wanted(),
-            )
+            rows: list[dict[str, Any]] = [
+                {"env": {}},
+                {"preexec_fn": lambda: os.close(0)},
+                {"cwd": gone, "preexec_fn": lambda: os.rmdir(gone)},
+            ]
+            for streams in rows:
+                answer = folder.run(self.program, **streams)
+                self.check("other surroundings", answer, folder.wanted())
 
 
 STACK = 64 * 1024
@@ -122,6 +120,5 @@ class StackTest(ProgramTest):
                 folder.write("conf", text)
                 words = [b"-D", b"-c", folder.at("conf")]
                 want = Answer(b"", b"aide: config:%d: %s\n" % (line, said.encode()), 17)
-                self.check(
-                    "%s with little stack" % said, run(self.program, words, **settings), want
-                )
+                answer = run(self.program, words, **settings)
+                self.check(said + " with little stack", answer, want)
