@@ -99,13 +99,12 @@ class Built:
             os.chmod(folder, 0o755)
         file_name = f"pool/{self.name}_{self.version}_{self.architecture}.deb"
         os.makedirs(sandbox.path("mirror/pool"), exist_ok=True)
-        words = ["dpkg-deb", "--root-owner-group", "-Zxz", "--build", tree]
-        subprocess.run(
-            [*words, sandbox.path("mirror/" + file_name)], check=True, capture_output=True
-        )
+        made = sandbox.path("mirror/" + file_name)
+        words = ["dpkg-deb", "--root-owner-group", "-Zxz", "--build", tree, made]
+        subprocess.run(words, check=True, capture_output=True)
         part = f"{'_more':16}{0:<12}{0:<6}{0:<6}{0:<8}{self.more:<10}`\n".encode()
-        data = sandbox.read("mirror/" + file_name) + part + bytes(self.more)
-        sandbox.write("mirror/" + file_name, data)
+        data = sandbox.read(made) + part + bytes(self.more)
+        sandbox.write(made, data)
         digest = hashlib.sha256(data).hexdigest()
         self.fields = f"{control}Filename: {file_name}\nSize: {len(data)}\nSHA256: {digest}\n"
 
@@ -213,9 +212,8 @@ def upgraded(sandbox: CommandTest) -> Place:
     del place.new.entries[b"/usr/share/tool/gone"]
     place.new.link(b"/usr/bin/alias", b"tool", size=4)
     place.new.link(b"/usr/bin/zero", b"0", lname="00", size=1)
-    place.new.file(ODD, TWO).directory(b"/usr/share/tool/new").file(
-        b"/usr/share/tool/new/file", TWO
-    )
+    place.new.file(ODD, TWO).directory(b"/usr/share/tool/new")
+    place.new.file(b"/usr/share/tool/new/file", TWO)
     return place
 
 

@@ -284,13 +284,11 @@ class AcceptPartlyTest(AcceptingTest):
     def test_many(self) -> None:
         """Random databases against maps: the new one, with the old entries that stay open."""
         draw = random.Random(1)
-        for number in range(4):
+        rows = (("/*/a*", r"/[^/]*/a[^/]*"), ("/etc/**", r"/etc/.+"))
+        for number, (pattern, expression) in enumerate(2 * rows):
             paths = [random_path(draw) for _ in range(270)]
             old, new = (
                 {path: draw.randint(1, 3) for path in draw.sample(paths, 180)} for _ in range(2)
-            )
-            pattern, expression = (
-                ("/etc/**", r"/etc/.+") if number % 2 else ("/*/a*", r"/[^/]*/a[^/]*")
             )
             is_open = re.compile(expression).fullmatch
             self.put(database(old), database(new))

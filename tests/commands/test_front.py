@@ -141,10 +141,7 @@ class FrontTest(CommandTest):
                 f"sha256={other}\nkit=k\nproved=yes\n",
                 UNKNOWN_BUILD + b"it is not the program that was installed\n",
             ),
-            (
-                "sha256={0}\nkit=\033\nproved=\033[2J\n",
-                b"kit: \\033\na proved build: \\033[2J\n",
-            ),
+            ("sha256={0}\nkit=\033\nproved=\033[2J\n", b"kit: \\033\na proved build: \\033[2J\n"),
         ):
             for program, digest in programs.items():
                 if record:

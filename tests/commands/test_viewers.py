@@ -29,6 +29,8 @@ from aide_compare.show.page import CHOICES, part_of, script_of
 BLANKS_THAT_ARE_LETTERS = "\u115f\u1160\u2800\u3164\ufe0f\uffa0"
 LABELS = {word_of(label): label for label in FORMS}
 PAIRS = 200 if os.environ.get(QUICK) else 400
+# What an entry of the table of views has if it does not say it.
+USUAL = {"severity": "", "standing": "open", "package": ""}
 # What a line has beside what is proved.
 ADDED = {"standing", "severity", "package", "standings"}
 # What would make markup, or code, of a text.
@@ -50,18 +52,10 @@ TAGS = set("h1 h2 p dl dt dd div code b i span small details summary table tr th
 
 def script_entry(one: Fields) -> Fields:
     """An entry of the table of views, as the script keeps it."""
-    growth = one.get("growth", 0)
-    return {
-        "path": one["path"],
-        "folded": one["path"].lower(),
-        "kind": one["kind"],
-        "severity": one.get("severity", ""),
-        "place": one["place"],
-        "standing": one.get("standing", "open"),
-        "package": one.get("package", ""),
-        "attribute": " ".join(one["attributes"]),
-        "size": growth,
-    }
+    own = {name: one[name] for name in ("path", "kind", "place")}
+    own.update((name, one.get(name, usual)) for name, usual in USUAL.items())
+    own.update(folded=one["path"].lower(), attribute=" ".join(one["attributes"]))
+    return {**own, "size": one.get("growth", 0)}
 
 
 def bytes_in(fields: Fields, key: str) -> bytes:

@@ -97,9 +97,8 @@ def named_in(text: str) -> set[str]:
 
 
 def ask_bash(trial: InstallTest, *words: str) -> list[str]:
-    done = trial.run_words(
-        ["bash", "--norc", "-c", ASK_BASH, "bash", trial.first(BASH), *words], cwd=trial.source
-    )
+    command = ["bash", "--norc", "-c", ASK_BASH, "bash", trial.first(BASH)]
+    done = trial.run_words([*command, *words], cwd=trial.source)
     trial.assertEqual((done.status, done.errors), (0, b""), ("bash completes", words))
     return done.output_text.split()
 
@@ -155,13 +154,10 @@ class CompletionsTest(InstallTest):
             ("aide-compare sort VERS", "aide-compare sort VERSION"),
             ("aide-compare hosts report --format=js", "aide-compare hosts report --format=json"),
         ):
-            done = self.run_words(
-                ["zsh", "-f", "-c", ASK_ZSH, "zsh", folder, line], cwd=self.source
-            )
-            self.assertTrue(
-                done.status == 0 and wanted in done.output_text.replace("\r", ""),
-                ("zsh completes " + line, done),
-            )
+            words = ["zsh", "-f", "-c", ASK_ZSH, "zsh", folder, line]
+            done = self.run_words(words, cwd=self.source)
+            self.assertEqual(done.status, 0, ("zsh completes " + line, done))
+            self.assertIn(wanted, done.output_text.replace("\r", ""), "zsh completes " + line)
 
     def test_fish(self) -> None:
         self.needs("fish")

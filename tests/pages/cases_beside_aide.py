@@ -88,6 +88,12 @@ def fields(
     return Case(name, statuses, BOTH + lines, old, new, texts=texts)
 
 
+def of_path(name: str, statuses: Pair[int], path: str) -> Case:
+    """A case of a path of the old database, beside a file whose name has a blank."""
+    conf = f"database_in=file:{path}\n{NEW_ONLY}"
+    return Case(name, statuses, conf, files={"with blank": A})
+
+
 IGNORED = "report_ignore_changed_attrs="
 CONFIGURATION = [
     Case("the same answer", (4, 4)),
@@ -110,18 +116,8 @@ CONFIGURATION = [
     also("options behind report_url=stdout", (4, 4), f"report_url=stdout\n{IGNORED}s"),
     also("a misspelt option", (17, 4), "report_ignore_changed_atrs=s"),
     also("a group in lower case", (17, 4), "mygroup=s"),
-    Case(
-        "a backslash before a blank",
-        (4, 18),
-        "database_in=file:DIR/with\\ blank\n" + NEW_ONLY,
-        files={"with blank": A},
-    ),
-    Case(
-        "a blank in a path",
-        (17, 4),
-        "database_in=file:DIR/with blank\n" + NEW_ONLY,
-        files={"with blank": A},
-    ),
+    of_path("a backslash before a blank", (4, 18), "DIR/with\\ blank"),
+    of_path("a blank in a path", (17, 4), "DIR/with blank"),
     also("a comment behind a value", (4, 17), "report_level=summary # short"),
     also("a comment behind a bool", (4, 17), "report_quiet=no # yes"),
     also("a comment behind an expression", (17, 17), "report_force_attrs=s # x"),

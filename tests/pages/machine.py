@@ -115,8 +115,8 @@ class MachineTest(ScratchTest):
         sums = "".join(f"{digest}  {path[1:]}\n" for path, digest in digests.items())
         self.write("/var/lib/dpkg/info/openssl.md5sums", sums)
 
-    def put_databases(self, old: str | bytes, new: str | bytes) -> None:
-        for name, text in ((BASELINE, old), (NEWEST, new)):
+    def put_databases(self, old: str | bytes, new: str | bytes, *names: str) -> None:
+        for name, text in zip(names or (BASELINE, NEWEST), (old, new)):
             data = text if isinstance(text, bytes) else text.encode()
             self.write(name, gzip.compress(data), 0o600)
 

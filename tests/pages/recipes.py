@@ -1,7 +1,6 @@
 """The recipes of the pages, run as they stand on a machine below a directory."""
 from __future__ import annotations
 
-import gzip
 import hashlib
 import json
 import os
@@ -84,9 +83,7 @@ class RecipesTest(MachineTest):
 
     def put_files(self, old: str | bytes, new: str | bytes) -> None:
         """The two databases that a recipe names by hand."""
-        for name, text in (("old", old), ("new", new)):
-            data = text if isinstance(text, bytes) else text.encode()
-            self.write(f"/tmp/{name}.db.gz", gzip.compress(data))
+        self.put_databases(old, new, "/tmp/old.db.gz", "/tmp/new.db.gz")
 
     def put_night(self, sizes: dict[str, int]) -> None:
         """The databases of a night. The lines of debian.without name what lies below the root."""
