@@ -304,4 +304,5 @@ class ManyTest(CommandTest):
         measured = ["-IS", "-c", MEASURE, *self.command("aide-compare", *words)]
         done = run(sys.executable, measured, cwd=self.root, env=self.environment())
         self.assertEqual(done.status, 4, done)
+        self.assertNotIn(b"are not judged", done.errors, words)
         return int(done.errors.split()[-1])
