@@ -11,6 +11,7 @@ import subprocess
 
 from tests.lib.waiting import until
 
+from . import mail
 from .sandbox import CommandTest, DIFFER, NEW, OLD, SMALL_FILES, UMASK
 
 TOOL = "aide-compare compare --report"
@@ -85,13 +86,21 @@ class FaultsTest(CommandTest):
             self.assertEqual(os.listdir(small), [], "nothing is left on a full disk")
             self.write("cut.db", NEW[:-9])
             causes: list[bytes] = [b"cannot write the state file"]
-            for new in ("new.db", "cut.db"):
+
+            def fill() -> None:
                 with contextlib.suppress(OSError), open(f"{small}/filler", "wb") as filler:
                     shutil.copy(self.path("state"), small)
                     filler.write(b"x" * 65536)
+
+            for new in ("new.db", "cut.db"):
+                fill()
                 self.refused(18, causes, "aide-compare -q", "old.db", new, "--state=small/state")
                 self.assertEqual(os.listdir(small), ["filler"], "no state of an older run")
                 causes = [b"no @@end_db", *causes]
+            mail.prepare(self)
+            fill()
+            self.assertEqual(mail.call(self, "old.db", new, "--state=small/state").status, 18)
+            self.assertIn(b"no @@end_db", mail.body(mail.sent(self)), "the first cause")
 
     def test_no_program(self) -> None:
         """The program is found beside the command only."""

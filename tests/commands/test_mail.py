@@ -63,6 +63,8 @@ class TextsTest(MailTest):
         with open("/dev/full", "wb") as full:
             self.assertEqual(call(self, "old.db", "new.db", stderr=full).status, 15)
         self.assertIn("this option cannot be a default: --odd", words_of(body(sent(self))))
+        self.assertEqual(call(self, "--weekly", "Mon").status, 15)
+        self.assertIn("this option cannot be a default: --odd", words_of(body(sent(self))))
         os.remove(self.path("etc/defaults"))
         addresses = ["--to", ""], ["--to", "a\nBcc: b"], ["--to", "-x"], ["--to", "é\x01"]
         for words in (*addresses, ["--weekly=Foo"], ["--mail-time", "x"]):
@@ -210,7 +212,9 @@ class QueueTest(MailTest):
             self.mail("old.db", "new.db", *queue, status=0)
         self.stub("sendmail", "sleep 1; echo >> taken")
         both = [self.start(TOOL, "--send-queue", "queue") for _ in range(2)]
-        self.assertEqual([process.wait() for process in both], [0, 0])
+        for process in both:
+            process.communicate()
+            self.assertEqual(process.returncode, 0)
         self.assertEqual(self.read("taken"), b"\n", "one of two runs sends it")
 
     def test_odd_queue(self) -> None:

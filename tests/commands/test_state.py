@@ -1,6 +1,7 @@
 """The state file, what status says of it, and the check for monitoring."""
 from __future__ import annotations
 
+import itertools
 import json
 import os
 import re
@@ -139,13 +140,17 @@ class StatusTest(StateTest):
         self.refused(18, b"cannot open", "aide-compare", "--exclude-from", "none")
         self.assertEqual(self.state()["status"], "18", "a state that the defaults name")
         self.write("etc/defaults", "--odd\n--databases old.db new.db\n--trusted a\n--state state\n")
-        for tool in tools:
+        named: list[list[str]] = [[], ["./old.db", "./new.db"]]
+        for tool, names in itertools.product(tools, named):
             self.put()
-            self.expect(tool, self.call(tool), 15)
+            self.expect(f"{tool} {names}", self.call(tool, *names), 15)
             self.assertIn("line 1", self.state()["error"], "another line has a fault")
         self.write("etc/defaults", "--databases old.db gone.db\n--state state\n")
         self.refused(18, b"cannot open the new", "aide-compare", "./old.db", "./gone.db")
         self.assertIn("the new database", self.state()["error"], "they name both")
+        os.mkfifo(self.path("pipe"))
+        self.refused(18, b"cannot write", "aide-compare", "old.db", "new.db", "--state=pipe")
+        self.assertTrue(os.path.exists(self.path("pipe")), "what is no state stays")
 
     def linked(self, command: Forked, name: str, **at: int) -> Answer:
         """What writing the metrics answers when another user, in his folder, puts a link to a file

@@ -53,8 +53,8 @@ def keep_failure(path: str | None, error: Exception) -> None:
         return
     with suppress(Fault, OSError):
         become_owner(path)
-        if os.path.lexists(path) and os.lstat(path).st_size:
-            read_state(path)  # What is no state stays, such as a database.
+        if os.path.lexists(path):
+            read_state(path)  # What is no state stays, such as a database or a device.
         text = failed_comparison(error).state().text()
         try:
             replace(path, text, ANYBODY_READS, "the state file", makes_directory=False)

@@ -156,7 +156,7 @@ def work_request(request: CompareRequest) -> ComparisonInput:
     if len(set(request.places)) < len(request.places):
         raise Fault(Status.USAGE, "two outputs have one place, such as standard output")
     old, new = request.databases
-    others = (*request.trusted, *request.exclude_from, request.configuration or NONE)
+    others = (*request.trusted, *request.exclude_from, request.configuration or old)
     usual = (f"{DIRECTORY}/defaults", f"{DIRECTORY}/without")
     read = {os.path.realpath(path) for path in (old, new, *others, *usual)}
     if read.intersection(request.places):

@@ -39,8 +39,9 @@ def machines_state(databases: Sequence[str], words: Sequence[str]) -> str | None
     """The state file that the administrator's defaults name for this machine, though other lines
     of them have a fault."""
     with suppress(Fault):
-        if not databases:
-            return defaults_for((STATE,), words, passes_faults=True).get(STATE.attribute)
+        defaults = defaults_for((STATE, DATABASES), words, passes_faults=True)
+        if not databases or are_named(databases, defaults):
+            return defaults.get(STATE.attribute)
     return None
 
 
@@ -51,6 +52,12 @@ def is_same(path: str, named: str) -> bool:
     return os.path.realpath(path) == os.path.realpath(named)
 
 
+def are_named(databases: Sequence[str], defaults: Defaults) -> bool:
+    """Whether the databases are those that the defaults name, by whatever names."""
+    named = defaults.get(DATABASES.attribute, ())
+    return bool(named) and all(map(is_same, databases, named))
+
+
 def comparison_defaults(
     databases: Sequence[str],
     words: Sequence[str],
@@ -59,11 +66,10 @@ def comparison_defaults(
     """What the administrator's defaults give the options of a comparison. `databases` are those
     that the words of the command line name, if they name some."""
     defaults = defaults_for(COMPARISON_DEFAULTS, words)
-    named = defaults.get(DATABASES.attribute, ())
-    # They may be those that the defaults name, by whatever names.
-    if databases and not (named and all(map(is_same, databases, named))):
+    if databases and not are_named(databases, defaults):
         names = {option.attribute for option in MACHINES_DEFAULTS}
         return {name: value for name, value in defaults.items() if name not in names}
+    named = defaults.get(DATABASES.attribute, ())
     if named and is_missing(named[0]):
         note(f"there is no baseline {shown(named[0])}: as root, aide-compare setup makes it")
     missing = [path for path in defaults.get(TRUSTED.attribute, ()) if not os.path.lexists(path)]

@@ -77,7 +77,7 @@ class MailRequest(CompareRequest):
 def refuse_contradictions(request: MailRequest, given: Given) -> None:
     """Refuses what means nothing without another word, or with it."""
     checked(given)
-    if "weekly" in given and not request.state:
+    if "weekly" in given and not (request.state or request.fault):
         text = "--weekly needs --state: a file next to it says when the last one was sent"
         raise Fault(Status.USAGE, text)
     if request.unit_failed and not request.send_queue:
@@ -106,9 +106,9 @@ def request_of(words: Sequence[str]) -> MailRequest:
             defaults.setdefault(STATE.attribute, machines_state(given["databases"], words))
         else:
             say(error.text)
-    request = filled(MailRequest, given, defaults)
+    request = filled(MailRequest, given, defaults).but(fault=fault, notes=notes)
     refuse_contradictions(request, given)
-    return request.but(fault=fault, notes=notes)
+    return request
 
 
 MAX_PAGE = 1 << 19  # Bytes of the page of a mail.
@@ -226,7 +226,8 @@ def compared(request: MailRequest) -> tuple[State, bytes, list[str]]:
     except FAILURES as error:
         keep_failure(request.state, error)
         comparison = failed_comparison(error)
-        return comparison.state(), b"".join(message_of(request, before, comparison, None)), []
+        message = mail or message_of(request, before, comparison, None)
+        return comparison.state(), b"".join(message), []
 
 
 def columns_before(request: MailRequest) -> Sequence[str] | None:

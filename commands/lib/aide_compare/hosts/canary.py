@@ -29,16 +29,16 @@ from aide_compare.hosts.hosts_read import host_of, read_changes
 from aide_compare.hosts.report_values import WHOLE, Host
 from aide_compare.hosts.store import BASELINE, MAX_BASELINE, NEW_FILE, PREVIOUS, HostDirectory
 
-# In the store why the last run was without its canary, and in the directory of a canary which
-# comparison has listed something the last time.
+# In the store, why the last run was without its canary; in the directory of a canary, which
+# comparison listed something the last time.
 UNUSED = "canary"
 LISTED = "listed"
 MAX_TEXT = 60000
 MAX_NOTE = 5000
 NOTE = "the note of the canary"
 UNLISTED = (
-    "what was silent beside it is not listed here, since it was compared again or not at all, or is"
-    " no host of this report; compare and report all hosts again"
+    "what was silent beside it is not listed here, since it was compared again or not at all, its"
+    " changes cannot be read, or it is no host of this report; compare and report all hosts again"
 )
 # So long after its report the pair of an accepted canary serves hosts that lag behind.
 MAX_LAG = 7 * 86400

@@ -161,7 +161,7 @@ def send_all(path: str, way: Transport) -> None:
     time."""
     failed = None
     with open_directory(path, make=True) as directory:
-        # This command keeps it to its end. Where another run does so for long, none is lost.
+        # Kept until this command ends. Without it all is sent too: one may go twice, none is lost.
         lock = os.open(".", LISTING, dir_fd=directory.fd)
         is_locked(lock, time.monotonic() + LOCK_SECONDS)
         for name in names_in(directory, MAIL):
