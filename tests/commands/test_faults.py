@@ -99,7 +99,8 @@ class FaultsTest(CommandTest):
                 causes = [b"no @@end_db", *causes]
             mail.prepare(self)
             fill()
-            self.assertEqual(mail.call(self, "old.db", new, "--state=small/state").status, 18)
+            answer = mail.call(self, "old.db", new, "--state=small/state")
+            self.expect("a mail", answer, 18, b"", b"cannot write the state file")
             self.assertIn(b"no @@end_db", mail.body(mail.sent(self)), "the first cause")
 
     def test_no_program(self) -> None:

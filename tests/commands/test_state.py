@@ -152,6 +152,18 @@ class StatusTest(StateTest):
         self.refused(18, b"cannot write", "aide-compare", "old.db", "new.db", "--state=pipe")
         self.assertTrue(os.path.exists(self.path("pipe")), "what is no state stays")
 
+    def test_unreadable(self) -> None:
+        """After a failure a state that the user who compares cannot read is replaced too."""
+        self.needs_root()
+        self.put()
+        os.mkdir(self.path("his"))
+        os.chmod(shutil.copy(self.path("state"), self.path("his")), 0o600)
+        os.chown(self.path("his"), NOBODY, NOBODY)
+        self.refused(
+            18, None, "aide-compare", "--exclude-from=no", "old.db", "new.db", "--state=his/state"
+        )
+        self.assertEqual(self.state("his/state")["status"], "18", "he could not read it")
+
     def linked(self, command: Forked, name: str, **at: int) -> Answer:
         """What writing the metrics answers when another user, in his folder, puts a link to a file
         of root in the place of a name at a call. The file stays as it is."""

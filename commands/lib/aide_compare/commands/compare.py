@@ -52,9 +52,9 @@ def keep_failure(path: str | None, error: Exception) -> None:
     if path is None:
         return
     with suppress(Fault, OSError):
-        become_owner(path)
         if os.path.lexists(path):
             read_state(path)  # What is no state stays, such as a database or a device.
+        become_owner(path)
         text = failed_comparison(error).state().text()
         try:
             replace(path, text, ANYBODY_READS, "the state file", makes_directory=False)

@@ -226,8 +226,12 @@ def compared(request: MailRequest) -> tuple[State, bytes, list[str]]:
     except FAILURES as error:
         keep_failure(request.state, error)
         comparison = failed_comparison(error)
-        message = mail or message_of(request, before, comparison, None)
-        return comparison.state(), b"".join(message), []
+        message = b"".join(mail)
+        if message:  # About the first cause.
+            say(why_of(error))
+        else:
+            message = b"".join(message_of(request, before, comparison, None))
+        return comparison.state(), message, []
 
 
 def columns_before(request: MailRequest) -> Sequence[str] | None:
