@@ -1,9 +1,10 @@
 -- From what the matches hold to the job of the words.
-use Rattle.std.proofs.Common.{◌≡◌, ◌∙◌, List, [], ap, refl, Bool, true, Option, Some, None, codes}
+use Rattle.std.proofs.Common.{◌≡◌, ◌∙◌, ◌∷◌, List, [], ap, refl, sym, rules, Bool, true, false, Option, Some, None, codes}
 use Rattle.std.proofs.Common.{Ok, Err}
 use Rattle.std.proofs.Math.Path.{subst}
-use Rattle.std.specs.Prelude.{IfOk, Result, option_and_then}
-use Rattle.clap.specs.Walk.{Row, Text, first_of}
+use Rattle.std.specs.Prelude.{◌≢◌, if◌then◌else◌, IfOk, Result, option_and_then}
+use Rattle.clap.specs.Kinds.{Kinds}
+use Rattle.clap.specs.Walk.{Row, Text, first_of, is_empty}
 use Rattle.clap.specs.Simple.{App, is_simple, matches_of}
 use Rattle.clap.specs.Faults.{fault_of, is_simple_and_free}
 use Rattle.clap.proofs.OnLiterals.{clap_on_literals}
@@ -28,6 +29,19 @@ matched_by a b v rows is matched = subst (λ (x : App). (fault_of x v ≡ []) ×
 pub job-rows : (v words : List Text) (rows : List Row) → v ≡ words
     → (fault_of aide_command v ≡ []) × (rows ≡ matches_of aide_command v) → job_of words ≡ job_of_rows rows
 job-rows v words rows same is = cc
+
+-- faults that are not `[]` are not none
+pub not_empty : (k : Kinds) → k ≢ [] → is_empty k ≡ false
+not_empty [] p = absurd (p refl)
+not_empty (x ∷ k) p = search rules
+
+-- where the parse fails, there is no job
+pub no-job : (app : App) (v words : List Text) → v ≡ words → app ≡ aide_command → fault_of app v ≢ []
+    → job_of words ≡ None
+no-job app v words same is faulty =
+    sym (ap job_of same)
+    ∙ ap (λ (b : Bool). if b then job_of_rows (matches_of aide_command v) else None)
+    (not_empty (fault_of aide_command v) (λ e. faulty (ap (λ (a : App). fault_of a v) is ∙ e)))
 
 -- the job of the rows is that of the words, if there is one
 pub job-of-rows : (v words : List Text) (rows : List Row) → v ≡ words
