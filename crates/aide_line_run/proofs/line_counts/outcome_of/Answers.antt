@@ -1,0 +1,5 @@
+use Rattle.std.proofs.Common.{rules}
+use Rattle.aide_line_run.proofs.line_counts.outcome_of.Goals as goal
+
+pub returns : goal.returns
+returns c = search rules
