@@ -1,0 +1,1 @@
+"""The tools: what they decide and how they end, without a proof."""
