@@ -17,13 +17,16 @@ import subprocess
 import sys
 from collections.abc import Sequence
 
-from tests.lib.tally import Tally
+from tests.lib.tally import Tally, side_by_side
 from tools.lib.arguments import add_names, parser_of
-from tools.source.checker import TOP, below, kit, libraries, library_of
+from tools.lib.jobs import jobs
+from tools.source.checker import TOP, kit, libraries, words_over
 
 PROGRAMS = ("aide", "aide_lines")
 NEWER = "-v3"
 PROCESSOR = "x86-64-v3"
+# The memory that a build takes, which loads all libraries.
+EACH = 3 * 10**9
 
 
 def path_of(crate: str, ending: str = "") -> str:
@@ -49,14 +52,7 @@ def is_proved(said: str) -> bool:
 def words_of(crate: str, uses: dict[str, list[str]], kit: str) -> list[str]:
     """The command that builds a program for newer processors over its built libraries."""
     words = [os.path.join(kit, "bin", "rattle"), "build", "--crate-name", crate, "src/main.rt"]
-    libraries = os.path.join(kit, "rlibs")
-    for name in ["std", *uses[crate]]:
-        place = library_of(name) if name in uses else libraries
-        words += ["--extern", f"{name}={place}/{name}.rlib"]
-    for place in [*map(library_of, below(crate, uses)), libraries]:
-        words += ["-L", f"dependency={place}"]
-    words += ["--jobs", "1", "--logic-built", os.path.join(kit, "logic_built"), "--antt-project"]
-    words += [os.path.join(kit, "rattle", "logic", "antt-project.json")]
+    words += [*words_over(crate, uses, kit), "--jobs", "1"]
     words += ["--links", f"{crate}=", "--cpu", PROCESSOR, "--backend", "llvm"]
     return [*words, "--toolchain", os.path.join(kit, "toolchain")]
 
@@ -90,13 +86,14 @@ def build(crate: str, uses: dict[str, list[str]]) -> list[str]:
 
 
 def build_all(tally: Tally, ran_now: bool = False, names: Sequence[str] = PROGRAMS) -> None:
-    """Builds programs for newer processors too. With `ran_now` the builds that are there, which the
-    caller has just proved, get their records."""
+    """Builds programs for newer processors too, side by side if memory allows it. With `ran_now`
+    the builds that are there, which the caller has just proved, get their records."""
     uses = libraries()
-    for crate in names:
-        if ran_now:
+    if ran_now:
+        for crate in names:
             write_record(path_of(crate))
-        tally.add(crate + NEWER, build(crate, uses))
+    for crate, faults in zip(names, side_by_side(jobs(EACH), lambda it: build(it, uses), names)):
+        tally.add(crate + NEWER, faults)
 
 
 def main() -> int:

@@ -1,5 +1,9 @@
-"""The tests of the whole repository: the checks of files, `rt ci`, then the built programs over
-real files.
+"""The tests of the whole repository: what says soon what is wrong comes first.
+
+These are the checks of files; if a crate differs from origin/main, the tests of the programs over
+one that is not proved; `rt ci`, which proves all crates and builds the programs; the wrong bodies
+of the crates, those that differ first; and all tests over the proved programs. If the program that
+is not proved fails, nothing is proved.
 
 The very last line is 'N passed, M failed' of all together, after what each part took; the status is
 1 if something failed.
@@ -14,8 +18,9 @@ from collections.abc import Callable
 
 from tests.lib.scratch import TOP
 from tests.lib.tally import Tally
-from tools.gate import second_builds, unit_tests
+from tools.gate import judge, second_builds, unit_tests, unproved
 from tools.lib.arguments import parser_of
+from tools.lib.jobs import jobs
 
 PROGRAM = "crates/aide/out/aide"
 PROGRAMS = (
@@ -23,6 +28,8 @@ PROGRAMS = (
     "crates/aide_lines/out/aide_lines",
     "crates/aide_in_memory/out/aide_in_memory",
 )
+# What a check takes at the most, as it was seen: 1.6 GB, and more for a crate with many functions.
+BYTES_OF_A_CHECK = 2_200_000_000
 COUNTED = re.compile(r"(\d+) passed, (\d+) failed\n?")
 # The tests that the builds for newer processors run too.
 OF_PROGRAMS = "tests.program"
@@ -60,17 +67,24 @@ def processor_time() -> float:
     return spent.children_user + spent.children_system
 
 
-def jobs() -> int:
-    """How many checks at a time: three for each four processors, with 4 GB of memory for each.
+def changed_crates() -> list[str]:
+    """The crates that differ from origin/main; none if that is not known here."""
+    words = ["git", "-C", TOP, "diff", "--name-only", "origin/main", "--", "crates/*/*"]
+    try:
+        done = subprocess.run(words, stdout=subprocess.PIPE, stderr=subprocess.DEVNULL, text=True)
+    except OSError:
+        return []
+    names = done.stdout.splitlines() if done.returncode == 0 else []
+    return sorted({name.split("/")[1] for name in names})
 
-    A check reads its libraries with two threads, so with more checks than that they get in each
-    other's way, and all take more processor time. Without a number `rt ci` counts a gigabyte for
-    each thousand lines of a crate, and runs few checks beside that of a crate of tests.
-    """
-    processors = len(os.sched_getaffinity(0))
-    with open("/proc/meminfo", encoding="ascii") as file:
-        free = next(int(line.split()[1]) for line in file if line.startswith("MemAvailable:"))
-    return max(1, min(processors - processors // 4, free // 4000000))
+
+def try_unproved(tally: Tally) -> None:
+    """The tests of the programs, over programs that are built without their proofs."""
+    if all([unproved.made(name) for name in unproved.NAMES]):
+        program = f"{PROGRAM}-unproved"
+        unit_tests.run_all(unit_tests.modules(OF_PROGRAMS), tally, program, is_quick=True)
+    else:
+        tally.add("the programs without their proofs", ["were not built"])
 
 
 def prove(tally: Tally) -> None:
@@ -79,7 +93,7 @@ def prove(tally: Tally) -> None:
     for name in PROGRAMS:
         if os.path.lexists(os.path.join(TOP, name)):
             os.remove(os.path.join(TOP, name))
-    os.environ.setdefault("RT_JOBS", str(jobs()))
+    os.environ.setdefault("RT_JOBS", str(jobs(BYTES_OF_A_CHECK)))
     # For root `rt ci` runs what it has built as nobody, who has to be able to read it.
     umask = os.umask(0o022)
     with subprocess.Popen(
@@ -120,16 +134,29 @@ def try_programs(gate: Gate) -> None:
         print("skipped: this processor does not run the builds for newer ones", flush=True)
 
 
+def prove_and_try(gate: Gate, changed: list[str]) -> None:
+    """What takes long: the proofs, the wrong bodies, and the programs that were proved."""
+    gate.part("rt ci", prove)
+    lanes = jobs(BYTES_OF_A_CHECK)
+    gate.part("wrong bodies", lambda tally: judge.judge_all(tally, lanes, judge.in_turn(changed)))
+    if all(map(is_built, PROGRAMS[:2])):
+        try_programs(gate)
+    else:
+        gate.add("the programs", ["were not built"])
+
+
 def main() -> int:
     parser_of("tools.gate.whole", __doc__).parse_args()
     gate = Gate()
     names = unit_tests.modules(unit_tests.SOURCE)
     gate.part(unit_tests.SOURCE, lambda tally: unit_tests.run_all(names, tally))
-    gate.part("rt ci", prove)
-    if all(map(is_built, PROGRAMS[:2])):
-        try_programs(gate)
+    changed = changed_crates()
+    if changed:
+        gate.part("programs without proofs", try_unproved)
+    if gate.failed:
+        print("nothing is proved, since what comes before has failed", flush=True)
     else:
-        gate.add("the programs", ["were not built"])
+        prove_and_try(gate, changed)
     gate.print_cost()
     return gate.status()
 

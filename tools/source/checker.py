@@ -1,9 +1,12 @@
 """Where the toolchain is, and which crates stand on which."""
 from __future__ import annotations
 
+import importlib.machinery
+import importlib.util
 import os
 import subprocess
 import sys
+from types import ModuleType
 
 TOP = os.path.dirname(os.path.dirname(os.path.dirname(os.path.abspath(__file__))))
 
@@ -24,6 +27,24 @@ def kit() -> str:
     return os.path.dirname(page.strip())
 
 
+def rt_module() -> ModuleType | None:
+    """The module whose functions `rt` runs. None if this toolchain has none, or another one."""
+    path = os.path.join(kit(), "bin", "rtlib.py")
+    loader = importlib.machinery.SourceFileLoader("rtlib", path)
+    spec = importlib.util.spec_from_loader("rtlib", loader)
+    if spec is None or not os.path.isfile(path):
+        return None
+    module = importlib.util.module_from_spec(spec)
+    sys.modules["rtlib"] = module
+    writes_none, sys.dont_write_bytecode = sys.dont_write_bytecode, True
+    try:
+        loader.exec_module(module)
+    finally:
+        sys.dont_write_bytecode = writes_none
+    wanted = ("Crate", "guarded", "kit_sources", "lock")
+    return module if all(hasattr(module, name) for name in wanted) else None
+
+
 def below(crate: str, uses: dict[str, list[str]]) -> list[str]:
     """The crates of the repository that a crate stands on, each behind those that it stands on."""
     found: dict[str, None] = {}
@@ -36,6 +57,19 @@ def below(crate: str, uses: dict[str, list[str]]) -> list[str]:
 def library_of(crate: str) -> str:
     """Where the built library of a crate is."""
     return os.path.join(TOP, "crates", crate, "out", "rlib")
+
+
+def words_over(crate: str, uses: dict[str, list[str]], kit: str) -> list[str]:
+    """The words by which the toolchain finds the built libraries of a crate, and its own logic."""
+    words = []
+    own = os.path.join(kit, "rlibs")
+    for name in ["std", *uses[crate]]:
+        place = library_of(name) if name in uses else own
+        words += ["--extern", f"{name}={place}/{name}.rlib"]
+    for place in [*map(library_of, below(crate, uses)), own]:
+        words += ["-L", f"dependency={place}"]
+    words += ["--antt-project", os.path.join(kit, "rattle", "logic", "antt-project.json")]
+    return [*words, "--logic-built", os.path.join(kit, "logic_built")]
 
 
 def changed(crate: str) -> float:
