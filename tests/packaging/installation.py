@@ -18,6 +18,7 @@ PARTS = [
     *("commands/bin commands/lib commands/share contrib docs examples/small_tree man".split()),
     *("packaging README.md CHANGELOG.md SECURITY.md VERSION".split()),
 ]
+PROGRAMS = ("libexec/aide-compare/aide", "libexec/aide-compare/aide_lines")
 NOBODY = 65534
 # What the scripts may need: the base system without a compiler, git, dpkg-deb or rt.
 NEEDED = """[ awk basename cat chmod cmp comm cp cut date dirname env find grep gzip head id
@@ -115,6 +116,13 @@ class InstallTest(Sources, ScratchTest):
         done = self.install("--destdir", folder, "--program", self.program, *words)
         self.assertEqual((done.status, done.error_text), (0, ""), done)
         return tree(folder)
+
+    def refuses(self, label: str, folder: str, done: Answer, *said: str) -> None:
+        """It ended with 1 and these words, and nothing was written."""
+        self.assertEqual(done.status, 1, (label, done))
+        for text in said:
+            self.assertIn(text, done.error_text, label)
+        self.assertFalse(os.path.exists(folder), label)
 
     def plain(self) -> dict[str, str]:
         return dict(os.environ, PATH=self.plain_path)

@@ -9,10 +9,8 @@ from typing import Any
 from tests.lib.answer import Answer
 from tests.lib.program_test import slow
 from tests.lib.programs import lines_program_of
-from tests.lib.scratch import TOP
 from tests.packaging import byte_code
-from tests.packaging.installation import InstallTest, files, rights, tree
-from tools.source.checker import libraries
+from tests.packaging.installation import PROGRAMS, InstallTest, files, rights, tree
 
 DOCUMENTS = "share/doc/aide-compare"
 MANIFEST = "lib/aide-compare/installed"
@@ -23,7 +21,6 @@ FOLDERS = {
     "examples/small_tree": DOCUMENTS + "/examples/small_tree",
 }
 
-PROGRAMS = ("libexec/aide-compare/aide", "libexec/aide-compare/aide_lines")
 NEWER = tuple(path + "-v3" for path in PROGRAMS)
 
 LINK = "lib/nagios/plugins/check_aide_compare"
@@ -80,13 +77,6 @@ class InstallingTest(InstallTest):
     def removes_all(self, folder: str, **more: Any) -> None:
         done = self.install("--destdir", folder, "--uninstall", **more)
         self.assertEqual((done.status, done.error_text, tree(folder)), (0, "", {}), done)
-
-    def refuses(self, label: str, folder: str, done: Answer, *said: str) -> None:
-        """It ended with 1 and these words, and nothing was written."""
-        self.assertEqual(done.status, 1, (label, done))
-        for text in said:
-            self.assertIn(text, done.error_text, label)
-        self.assertFalse(os.path.exists(folder), label)
 
     def test_targets(self) -> None:
         wanted = wanted_modes(self.source)
@@ -227,89 +217,6 @@ class InstallingTest(InstallTest):
         done = self.install("--help")
         self.assertEqual((done.status, "--uninstall" in done.output_text), (0, True), done)
         self.assertIn("20 minutes", done.output_text)
-
-    def unbuilt(self, *without: str) -> tuple[str, dict[str, str]]:
-        """A copy in which nothing is built, and an environment with an rt that notes its calls."""
-        source = self.small_copy("unbuilt", "contrib", "docs", *without)
-        for name in ("aide", "aide_lines"):
-            self.write(f"unbuilt/crates/{name}/src/main.rt", "//! A program.\n")
-        # Built before a source of aide_patterns was written, which three of these stand on.
-        for name in libraries():
-            os.utime(self.write(f"unbuilt/crates/{name}/out/rlib/{name}.rlib", ""), (1, 1))
-        self.write("unbuilt/crates/aide_patterns/src/lib.rt", "//! Patterns.\n")
-        programs = os.path.dirname(self.program)
-        note = f'echo "$PWD $*" >> "{self.path("calls")}"'
-        put = f'mkdir -p out && cp "{programs}/${{PWD##*/}}" out/'
-        self.write("stubs/rt", f"#!/bin/sh\n{note}\n{put}\necho crate aide_attr: x\n", 0o755)
-        shutil.copytree(os.path.join(TOP, "tools/source"), os.path.join(source, "tools/source"))
-        shutil.copy(os.path.join(TOP, "crates.txt"), source)
-        return source, dict(os.environ, PATH=self.path("stubs") + ":" + self.plain_path)
-
-    def built(self) -> list[str]:
-        """The crates of the programs that rt was asked for since the last call."""
-        lines = self.read("calls").decode().splitlines()
-        self.write("calls", "")
-        return [
-            os.path.basename(line.removesuffix(" run -- -D -c /dev/null"))
-            for line in lines
-            if " run " in line
-        ]
-
-    def test_first_command(self) -> None:
-        """A comparison in a clone proves and builds the program of lines, an option the other."""
-        source, surroundings = self.unbuilt()
-        shutil.rmtree(os.path.join(source, "commands/lib/aide_compare/hosts"))
-        shutil.copy2(os.path.join(TOP, "compare"), source)
-        self.write("calls", "")
-        for words, status, wanted in (
-            ((), 7, ["aide_lines"]),
-            ((), 7, []),
-            (("--report",), 7, ["aide"]),
-            ((), 7, []),
-        ):
-            pair = [os.path.join(TOP, "examples/small_tree", name) for name in ("old.db", "new.db")]
-            command = [os.path.join(source, "compare"), *words, *pair]
-            done = self.run_words(command, env=surroundings)
-            self.assertEqual((done.status, self.built()), (status, wanted), (words, done))
-
-    def test_build(self) -> None:
-        """A program that is not built, or that is old, is built first."""
-        source, surroundings = self.unbuilt("commands/lib")
-        folder = self.path("built")
-        built, lines_built = (
-            os.path.join(source, f"crates/{name}/out/{name}") for name in ("aide", "aide_lines")
-        )
-        done = self.install("--destdir", folder, source=source, env=self.plain())
-        self.refuses("no program and no rt", folder, done, "rt", "--program")
-        both = ["aide_lines", "aide"]
-        for old, wanted in (("", both), ("", both[:0]), (built, both[1:]), (lines_built, both[:1])):
-            if old:
-                os.utime(old, (1, 1))
-            done = self.install("--destdir", folder, source=source, env=surroundings)
-            self.assertEqual((done.status, self.built()), (0, wanted), done)
-            self.assertEqual("17 minutes" in done.error_text, bool(wanted), "it says how long")
-            steps = done.error_text.count("\n  1 of 5 crates proved, 0 min: aide_attr\n")
-            self.assertEqual(steps, len(wanted), done)
-        found = tree(os.path.join(folder, "usr/local"))
-        for program, target in zip((self.program, lines_program_of(self.program)), PROGRAMS):
-            with open(program, "rb") as file:
-                self.assertEqual(found[target][1], file.read(), target)
-        library = "lib/aide-compare/python/aide_compare"
-        shutil.copytree(self.first(library), os.path.join(folder, "usr/local", library))
-        done = self.run_words([folder + "/usr/local/bin/aide-compare", "--version"])
-        proved = done.output_text.count("a proved build: yes\n")
-        self.assertEqual((done.status, proved), (0, 2), done)
-        os.remove(built)
-        script = os.path.join(source, "packaging", "make_package")
-        words = ["sh", script, "--output", self.path("unbuilt/out")]
-        done = self.run_words(words, env=surroundings)
-        self.assertEqual((done.status, os.path.exists(built)), (0, True), done)
-        self.assertIn("17 minutes", done.error_text)
-        self.write("stubs/rt", "#!/bin/sh\nexit 1\n", 0o755)
-        os.remove(built)
-        unproved = self.path("unproved")
-        done = self.install("--destdir", unproved, source=source, env=surroundings)
-        self.refuses("a program that is not proved", unproved, done)
 
     def test_byte_code(self) -> None:
         """Byte code is made below a prefix, is in step with the modules, and goes with them."""

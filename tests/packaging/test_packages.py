@@ -135,9 +135,9 @@ def try_texts(trial: InstallTest, found: dict[str, str], kept: dict[str, bytes])
     link to what it has."""
     links = []
     for name, text in found.items():
-        # A table of severities names the administrator's own libraries, wherever the commands are.
+        # The administrator's own libraries and certificates are there, wherever the commands are.
         named = set(re.findall(r"/usr/local/(?:bin/a|lib/|share/)[\w./-]*", text))
-        if name.endswith("/severity.conf"):
+        if name.endswith(("/severity.conf", "/certificates.py")):
             named -= {"/usr/local/lib/", "/usr/local/share/ca-certificates/"}
         trial.assertEqual(named, set(), name)
         if "/examples/" not in name:

@@ -3,6 +3,7 @@ known to be proved builds."""
 from __future__ import annotations
 
 import hashlib
+import os
 from collections.abc import Iterator, Sequence
 from contextlib import suppress
 
@@ -18,6 +19,7 @@ from aide_compare.base.program import (
     PROGRAM,
     find_installed,
     installed_builds,
+    path_below_prefix,
 )
 
 MAX_PROGRAM = 1 << 28
@@ -31,7 +33,7 @@ HELP = Help(
     name="aide-compare version",
     description="""\
 Prints the version, and of both programs that the commands run the path, the SHA-256, the kit
-that built it, and whether it is a proved build.""",
+that built it, and whether it is a proved build. The first one may not be installed.""",
     epilog="Status: 0 printed; 15 bad arguments; 18 a program cannot be read.",
 )
 
@@ -64,7 +66,10 @@ def build_lines(title: str, program: str) -> Iterator[str]:
 
 def program_lines(title: str, name: str) -> Iterator[str]:
     """What there is to say of each build of a program. Of two, the one is marked that runs on this
-    machine."""
+    machine. Most commands need only the program of lines, and the other one may be missing."""
+    if name == PROGRAM and not os.path.lexists(path_below_prefix(name)):
+        yield f"{title}: not installed"
+        return
     builds = installed_builds(name)
     running = find_installed(name)
     for build in builds:
