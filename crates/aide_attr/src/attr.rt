@@ -10,7 +10,7 @@ ghost use Rattle.aide_attr.specs.code.Row.{HasParts, IsRow};
 use crate::form::Form;
 
 /// An attribute of an entry, in the order in which sets and reports list them.
-#[derive(Clone, Copy, PartialEq, Eq, Debug)]
+#[derive(Clone, Copy, PartialEq, Eq)]
 pub enum Attr {
     /// The type of the file, from the type bits of its mode.
     Ftype,

@@ -12,7 +12,7 @@ use std::marker::Model;
 const MOST_NAMES: usize = 1024;
 
 /// Why a name cannot get a value.
-#[derive(Clone, Copy, PartialEq, Eq, Debug)]
+#[derive(Clone, Copy, PartialEq, Eq)]
 pub enum NameMapFault {
     /// The name is new, and the map already has 1,024 names.
     Full,
