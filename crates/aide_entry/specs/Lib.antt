@@ -15,4 +15,5 @@ pub mod Fault
 pub mod Attributes
 pub mod View
 pub mod EntryLines
+pub mod Count
 pub mod code
