@@ -7,7 +7,7 @@ use crate::characters::hex_digit;
 use aide_text::Feed;
 
 /// Hands out the bytes of another feed in base 16, in lower case.
-#[derive(Debug, Drop)]
+#[derive(Drop)]
 pub struct Base16<B> {
     bytes: B,
     pending: Option<u8>,

@@ -78,7 +78,7 @@ fn next_spelling<B: Feed>(c: u8, bytes: &mut B) -> Spelling
 }
 
 /// Hands out the bytes of another feed as they are written in a string.
-#[derive(Debug, Drop)]
+#[derive(Drop)]
 pub struct Escaped<B> {
     bytes: B,
     pending: [u8; 6],

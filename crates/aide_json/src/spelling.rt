@@ -2,7 +2,7 @@
 ghost use Rattle.std.specs.Prelude.{◌<◌};
 
 /// One to six bytes, at the end of six places.
-#[derive(Clone, Copy, Debug)]
+#[derive(Clone, Copy)]
 pub(crate) struct Spelling {
     pub(crate) bytes: [u8; 6],
     pub(crate) at: usize,
