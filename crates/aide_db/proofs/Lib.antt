@@ -21,3 +21,4 @@ pub mod FaultOrderTexts
 pub mod FaultExists
 pub mod Laws
 pub mod KeepingLemmas
+pub mod NoEntries

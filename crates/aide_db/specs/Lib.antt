@@ -23,7 +23,7 @@ pub mod Told
 pub mod Side
 pub mod MemorySources
 pub mod Again
-pub mod Count
+pub mod EmptyDatabase
 pub mod Opening
 pub mod Failures
 pub mod Kept

@@ -4,9 +4,9 @@ use Rattle.std.specs.Prelude.{Result, IfOk, OnErr, OnOk}
 use Rattle.aide_entry.specs.Text.{is_filled}
 use Rattle.sha2.specs.Hashers.{Holds256}
 use Rattle.sha2.specs.declared.Sha256.{Sha256}
-use Rattle.aide_db.specs.Count.{one_more}
+use Rattle.aide_entry.specs.Count.{one_more}
 use Rattle.aide_db.specs.declared.chunk_reader.Filled.{Filled}
-use Rattle.aide_db.specs.declared.fault.DeviceFault.{DeviceFault}
+use Rattle.aide_entry.specs.declared.device_fault.DeviceFault.{DeviceFault}
 use Rattle.aide_db.specs.declared.chunk_reader.Filled.TheVariants.{Some, Nothing, Failed}
 
 -- A chunk was read, and the bytes that are left follow it. Or no chunk was read: at the end of the bytes, or because

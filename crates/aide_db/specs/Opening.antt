@@ -1,6 +1,6 @@
 -- What the calls of sources change.
 use Rattle.std.specs.Prelude.{ℕ, ◌≡◌, Bool, true, false, Option, None, List}
-use Rattle.aide_db.specs.Count.{one_more}
+use Rattle.aide_entry.specs.Count.{one_more}
 use Rattle.aide_db.specs.Side.{other_side}
 use Rattle.aide_db.specs.declared.side.Side.{Side}
 

@@ -8,8 +8,8 @@ ghost use Rattle.aide_db.specs.NextChunk.{IsReadInto, after_filled};
 ghost use Rattle.aide_db.specs.Told.{told, tells};
 ghost use Rattle.aide_db.specs.code.ChunkReaderView.{ChunkReaderView, left_in};
 
-use crate::fault::DeviceFault;
 use crate::reel::Reel;
+use aide_entry::DeviceFault;
 use sha2::{Digest, Sha256};
 use std::marker::Model;
 

@@ -6,7 +6,7 @@ use Rattle.aide_entry.specs.Attributes.{Attributes}
 use Rattle.aide_entry.specs.Lines.{kind_of, kind_of_field}
 use Rattle.aide_entry.specs.Path.{path_cmp}
 use Rattle.aide_entry.specs.Text.{fields, lines}
-use Rattle.aide_line_run.specs.EmptyDatabase.{empty_database}
+use Rattle.aide_db.specs.EmptyDatabase.{empty_database}
 
 no_line : entries_of empty_database ≡ []
 unfolding empty_database lines kind_of kind_of_field fields
