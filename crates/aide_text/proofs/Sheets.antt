@@ -6,7 +6,7 @@ use Rattle.std.proofs.lemmas.List.{append-nil, take-append-drop, length-take-le}
 use Rattle.std.proofs.Math.Seq.{take-append_seam}
 use Rattle.std.specs.Io.KnownBytes.{Appends}
 use Rattle.std.proofs.lemmas.Bool.{true≢false}
-use Rattle.aide_db.specs.Count.{sum_of}
+use Rattle.aide_entry.specs.Count.{sum_of}
 use Rattle.aide_text.specs.Failures.{one_more}
 use Rattle.aide_text.specs.Sent.{IsCut, SendsPart}
 use Rattle.aide_text.specs.Sheet.{Sheet, Adds, WroteBy, Wrote, Writing, WritesPart, WritesSome}

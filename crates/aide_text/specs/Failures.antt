@@ -1,6 +1,6 @@
 -- Counts of failures and of flushes. They stop at the last value of 64 bits.
 use Rattle.std.specs.Prelude.{◌≡◌, ℕ, ◌-◌, ◌^◌, ◌<◌, MatchResult, Result}
-pub use Rattle.aide_db.specs.Count.{one_more}
+pub use Rattle.aide_entry.specs.Count.{one_more}
 
 -- a call that returns a fault counts one failure, and any other call counts none
 abbrev pub CountsFault : {T E : Type 0} → ℕ → ℕ → Result T E → Type 0

@@ -1,7 +1,7 @@
 -- What a pen has written to a sink.
 use Rattle.std.specs.Prelude.{◌≡◌, ◌<◌, ℕ, Bool, true, false, Option, List, [], ◌++◌, length}
 use Rattle.std.specs.Io.KnownBytes.{Appends}
-use Rattle.aide_db.specs.Count.{sum_of}
+use Rattle.aide_entry.specs.Count.{sum_of}
 use Rattle.aide_text.specs.Failures.{one_more}
 
 -- The bytes that the sink has taken, and how often the sink has failed and was flushed. How many bytes the pen has

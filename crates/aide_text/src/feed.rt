@@ -28,7 +28,7 @@ fn octal_escape(c: u8) -> [u8; 4]
 }
 
 /// Hands out the bytes of another feed as a path is printed.
-#[derive(Debug, Drop)]
+#[derive(Drop)]
 pub struct Printed<B> {
     bytes: B,
     pending: [u8; 4],

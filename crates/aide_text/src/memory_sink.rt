@@ -2,7 +2,7 @@
 ghost use Rattle.std.specs.Prelude.{◌≡◌, [], Some, true};
 
 use crate::sink::Sink;
-use aide_db::DeviceFault;
+use aide_entry::DeviceFault;
 use std::alloc::Allocator;
 use std::marker::Model;
 

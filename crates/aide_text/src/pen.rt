@@ -17,7 +17,7 @@ use itoa::Buffer;
 
 /// Counts the bytes of a report that have been written. Once the sink has failed, the pen writes nothing more. So each
 /// function that writes with a pen writes its whole text, or only the beginning of it and then nothing.
-#[derive(Clone, Copy, Debug, PartialEq, Eq)]
+#[derive(Clone, Copy, PartialEq, Eq)]
 pub struct Pen {
     /// The bytes that have been written. The count stops at `u64::MAX`.
     pub sent: u64,

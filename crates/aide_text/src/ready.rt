@@ -5,7 +5,7 @@ ghost use Rattle.std.specs.Prelude.{◌≡◌, ◌<◌, ◌≤◌, ◌++◌, ◌
 use crate::feed::Feed;
 
 /// Hands out a text of at most 128 bytes, which is kept in place.
-#[derive(Clone, Copy, Debug)]
+#[derive(Clone, Copy)]
 pub struct Ready {
     bytes: [u8; 128],
     at: usize,

@@ -6,7 +6,7 @@ ghost use Rattle.aide_text.specs.Section.{title_of};
 use aide_attr::Level;
 
 /// A section of the report that goes over the entries.
-#[derive(Clone, Copy, Debug, PartialEq, Eq)]
+#[derive(Clone, Copy, PartialEq, Eq)]
 pub enum Section {
     /// The list of the added entries.
     AddedEntries,
@@ -21,7 +21,7 @@ pub enum Section {
 }
 
 /// What a section has.
-#[derive(Clone, Copy, Debug, PartialEq, Eq)]
+#[derive(Clone, Copy, PartialEq, Eq)]
 pub enum Contents {
     /// A line for each entry of the kinds that are true here.
     Listed {

@@ -4,7 +4,7 @@ ghost use Rattle.std.specs.Prelude.{false};
 ghost use Rattle.std.specs.Io.KnownBytes.{WriteAppends, Keeps};
 ghost use Rattle.aide_text.specs.Failures.{CountsFault, CountsFlush};
 
-use aide_db::DeviceFault;
+use aide_entry::DeviceFault;
 use std::io::Write;
 use std::marker::Model;
 

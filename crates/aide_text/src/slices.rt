@@ -5,7 +5,7 @@ ghost use Rattle.std.specs.Prelude.{◌≡◌, ℕ, List};
 use crate::feed::Feed;
 
 /// Hands out the bytes of a slice.
-#[derive(Clone, Copy, Debug, Drop)]
+#[derive(Clone, Copy, Drop)]
 pub struct SliceFeed<'a> {
     bytes: &'a [u8],
 }
