@@ -1,16 +1,12 @@
 -- Two entries agree by how they differ.
-use Rattle.std.proofs.Common.{◌≡◌, Bool, true, false, refl, sym, ap}
-use Rattle.std.specs.Prelude.{◌||◌, ◌&&◌, not, Some, None}
-use Rattle.std.specs.List.{list_any}
-use Rattle.aide_attr.specs.Attr.{all_attrs}
+use Rattle.std.proofs.Common.{◌≡◌, ◌∙◌, Bool, true, false, refl, sym, ap}
+use Rattle.std.specs.Prelude.{◌||◌, ◌&&◌, not}
 use Rattle.aide_attr.specs.Difference.{Sides, sides_of}
 use Rattle.aide_attr.specs.declared.attr.Attr.{Attr}
-use Rattle.aide_attr.specs.declared.attr.Attr.TheVariants.{Ftype, Lname}
 use Rattle.aide_attr.specs.declared.delta.Delta.{Delta}
-use Rattle.aide_attr.specs.declared.file_type.FileType.{FileType}
-use Rattle.aide_entry.specs.Attributes.{Attributes, sides_between, type_in}
-use Rattle.aide_agreement.specs.Agreement.{agree, agree_by, shares_content, strays}
-use Rattle.aide_agreement.specs.Own.{is_directory}
+use Rattle.aide_entry.specs.Attributes.{Attributes, sides_between}
+use Rattle.aide_agreement.specs.Agreement.{agree, agree_by, are_same_by, have_targets, says_rights}
+use Rattle.aide_agreement.specs.Trusted.{changed_by, changed_too}
 
 -- two entries differ as the difference between them says
 pub same_sides : (d : Delta) (x y : Attributes)
@@ -29,32 +25,30 @@ same_sides d x y in_old in_new differs size old_type new_type i = record {
   new_type = new_type i;
 }
 
--- an entry without a type agrees with none
-pub agree_none : (x y : Attributes) → type_in (x Ftype) ≡ None → false ≡ agree x y
-unfolding agree
-agree_none x y e = sym (ap (λ t. agree_by t x y) e)
+module _ (s : Sides) (x y : Attributes) (same : s ≡ sides_between x y) where
+  by_sides : agree_by s (have_targets x y) ≡ agree x y
+  unfolding agree
+  by_sides = ap (λ t. agree_by t (have_targets x y)) same
 
-shares : Attributes → Attributes → FileType → Sides → Bool
-shares x y kind s = shares_content kind s (x Lname) (y Lname)
+  -- entries that say who may do what agree if they are the same
+  pub agree_then : (result targets : Bool) → targets ≡ have_targets x y → true ≡ says_rights s.in_old
+      → result ≡ are_same_by s.old_type s targets → result ≡ agree x y
+  agree_then result targets t says is =
+      is ∙ (ap (λ b. b && are_same_by s.old_type s targets) says ∙ (ap (agree_by s) t ∙ by_sides))
 
-all_of : Attributes → Attributes → FileType → Sides → Bool
-all_of x y kind s = shares x y kind s && not (list_any (strays (is_directory kind) s) all_attrs)
+  -- others do not agree
+  pub agree_else : (result : Bool) → result ≡ says_rights s.in_old → false ≡ says_rights s.in_old → result ≡ agree x y
+  agree_else result is says =
+      is ∙ (sym says ∙ (ap (λ b. b && are_same_by s.old_type s (have_targets x y)) says ∙ by_sides))
 
--- entries that have the same content agree if they do not stray from each other
-pub agree_then : (x y : Attributes) (s : Sides) (kind : FileType) (d stray : Bool)
-    → s ≡ sides_between x y → type_in (x Ftype) ≡ Some kind
-    → true ≡ shares_content kind s (x Lname) (y Lname)
-    → d ≡ is_directory kind → stray ≡ list_any (strays d s) all_attrs → not stray ≡ agree x y
-unfolding agree shares all_of
-agree_then x y s kind d stray same is holds is_d f = cc
-
--- entries that have not the same content do not agree
-pub agree_else : (x y : Attributes) (s : Sides) (kind : FileType) (shared : Bool)
-    → s ≡ sides_between x y → type_in (x Ftype) ≡ Some kind
-    → false ≡ shares_content kind s (x Lname) (y Lname) → shared ≡ shares_content kind s (x Lname) (y Lname)
-    → shared ≡ agree x y
-unfolding agree shares all_of
-agree_else x y s kind shared same is fails e = cc
+-- what changed here changed on a trusted machine too as these say
+pub changed_sides : (old new before there : Attributes) (s t u : Sides) (result here_targets there_targets : Bool)
+    → s ≡ sides_between old new → t ≡ sides_between old before → u ≡ sides_between before there
+    → here_targets ≡ have_targets old new → there_targets ≡ have_targets before there
+    → result ≡ changed_by s t u here_targets there_targets → result ≡ changed_too old new before there
+unfolding changed_too
+changed_sides old new before there s t u result x y e f g h i is =
+    is ∙ (λ j. changed_by (e j) (f j) (g j) (h j) (i j))
 
 pub stray_at : (changed missing digest own : Bool) (a b c d : Bool) → changed ≡ a → missing ≡ b → digest ≡ c → own ≡ d
     → ((changed || (missing && not digest)) && not own) ≡ ((a || (b && not c)) && not d)

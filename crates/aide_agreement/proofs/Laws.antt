@@ -1,44 +1,47 @@
 -- Laws of agreement, and of what accounts for a change.
-use Rattle.std.proofs.lemmas.Grind.{common_steps}
-use Rattle.std.proofs.Common.{◌≡◌, ◌∙◌, Bool, true, false, refl, sym, ap, inl, inr, arith, rules}
+use Rattle.std.proofs.Common.{◌≡◌, ◌≢◌, ◌∙◌, ℕ, Bool, true, false, refl, sym, ap, inl, inr}
 use Rattle.std.specs.Prelude.{◌||◌, ◌&&◌, not, Option, Some, None, IsSome, if◌then◌else◌, is_some}
 use Rattle.std.specs.List.{list_any}
-use Rattle.std.proofs.lemmas.Bool.{and_parts, not-true}
+use Rattle.std.proofs.lemmas.Bool.{and_from, and_parts, not-true, not_from_false}
 use Rattle.aide_attr.specs.Attr.{all_attrs}
 use Rattle.aide_attr.specs.Difference.{Sides, is_added, is_affected, is_changed, is_removed, is_reported, is_same}
 use Rattle.aide_attr.specs.Set.{has}
 use Rattle.aide_attr.specs.declared.attr.Attr.{Attr}
-use Rattle.aide_attr.specs.declared.attr.Attr.TheVariants.{Ftype, Lname}
+use Rattle.aide_attr.specs.declared.attr.Attr.TheVariants.{Ftype, Gid, Lname, Perm, Uid}
 use Rattle.aide_attr.specs.declared.delta.Ignore.{Ignore}
 use Rattle.aide_attr.specs.declared.file_type.FileType.{FileType}
 use Rattle.aide_attr.specs.declared.file_type.FileType.TheVariants as kinds
 use Rattle.aide_attr.proofs.WalkLemmas.{bool_cases}
 use Rattle.aide_entry.specs.Attributes.{Attributes, Value, sides_between, type_in}
-use Rattle.aide_agreement.specs.Account.{IsUnaccounted, Pair, is_as_old, is_as_trusted, same_as}
-use Rattle.aide_agreement.specs.Agreement.{agree, agree_by, has_target, is_shared, shares_content, strays}
-use Rattle.aide_agreement.specs.Meaning.{Agrees, HasTarget, HaveSameDigests, SaysContent, SharesDigest}
+use Rattle.aide_agreement.specs.Account.{IsUnaccounted, Pair, came_too, is_as_old, is_as_trusted, same_as}
+use Rattle.aide_agreement.specs.Agreement.{agree, are_same_by, has_target, have_targets, is_shared, says_rights, shares_content, strays}
+use Rattle.aide_agreement.specs.Meaning.{Agrees, HasTarget, HaveSameDigests, SaysContent, SaysRights, SharesDigest}
 use Rattle.aide_agreement.specs.Own.{is_device, is_digest, is_directory, is_own, is_strong}
 use Rattle.aide_agreement.specs.declared.account.SameAs.{SameAs}
 use Rattle.aide_agreement.specs.declared.account.SameAs.TheVariants.{Old, Trusted}
 use Rattle.aide_agreement.proofs.ListLemmas.{found_any, none_at, none_of, some_at}
-use Rattle.aide_agreement.proofs.SetLemmas.{digest_not_own, strong_is_digest, type_not_own, type_no_digest}
+use Rattle.aide_agreement.proofs.SetLemmas.{digest_not_own, is_needed, needed_kept, strong_is_digest, type_not_own, type_no_digest}
 use Rattle.aide_agreement.proofs.SideLemmas.{alike_at, alike_no_stray, digest_at, digest_no_stray, own_no_stray}
 use Rattle.aide_agreement.proofs.SideLemmas.{same_from, same_of, shared_at, target_at, target_from, unaffected_at}
 
 -- ---- what it means that two entries agree
 
-no_stray : (x y : Attributes) (kind : FileType) → agree_by (Some kind) x y ≡ true
+-- entries of this type have the same content and do not stray from each other
+abbrev are_same_if : Option FileType → (x y : Attributes) → Bool
+are_same_if kind x y = are_same_by kind (sides_between x y) (have_targets x y)
+
+no_stray : (x y : Attributes) (kind : FileType) → are_same_if (Some kind) x y ≡ true
     → (a : Attr) → strays (is_directory kind) (sides_between x y) a ≡ false
 no_stray x y kind e =
     none_at (strays (is_directory kind) (sides_between x y))
-    (not-true _ (and_parts (shares_content kind (sides_between x y) (x Lname) (y Lname)) _ e).1)
+    (not-true _ (and_parts (shares_content kind (sides_between x y) (have_targets x y)) _ e).1)
 
-alike_by : (x y : Attributes) (kind : FileType) → agree_by (Some kind) x y ≡ true
+alike_by : (x y : Attributes) (kind : FileType) → are_same_if (Some kind) x y ≡ true
     → (a : Attr) → is_own (is_directory kind) a ≡ false → is_digest a ≡ false → x a ≡ y a
 alike_by x y kind e a own digest =
     alike_at (x a) (y a) (is_digest a) (is_own (is_directory kind) a) own digest (no_stray x y kind e a)
 
-digests_by : (x y : Attributes) (kind : FileType) → agree_by (Some kind) x y ≡ true
+digests_by : (x y : Attributes) (kind : FileType) → are_same_if (Some kind) x y ≡ true
     → (a : Attr) → is_digest a ≡ true → (u v : Value) → x a ≡ Some u → y a ≡ Some v → u ≡ v
 digests_by x y kind e a digest u v is_u is_v =
     digest_at (x a) (y a) u v (is_digest a) (is_own (is_directory kind) a) is_u is_v
@@ -57,59 +60,97 @@ shared_by x y e =
       in_second = shared.2;
     }
 
-content_of_file : (x y : Attributes) (kind : FileType) → agree_by (Some kind) x y ≡ true → kind ≡ kinds.File → SharesDigest x y
-content_of_file x y kind e is =
-    let content = (and_parts (shares_content kind (sides_between x y) (x Lname) (y Lname)) _ e).0 in
-    shared_by x y (ap (λ k. shares_content k (sides_between x y) (x Lname) (y Lname)) (sym is) ∙ content)
+pub targets_of : (x y : Attributes) → have_targets x y ≡ true → HasTarget x × HasTarget y
+targets_of x y both = (
+  target_at x (and_parts (has_target (x Lname)) (has_target (y Lname)) both).0,
+  target_at y (and_parts (has_target (x Lname)) (has_target (y Lname)) both).1,
+)
 
-content_of_link : (x y : Attributes) (kind : FileType) → agree_by (Some kind) x y ≡ true → kind ≡ kinds.Link
-    → HasTarget x × HasTarget y
-content_of_link x y kind e is =
-    let content = (and_parts (shares_content kind (sides_between x y) (x Lname) (y Lname)) _ e).0 in
-    let both : (has_target (x Lname) && has_target (y Lname)) ≡ true =
-    ap (λ k. shares_content k (sides_between x y) (x Lname) (y Lname)) (sym is) ∙ content in (
-      target_at x (and_parts (has_target (x Lname)) (has_target (y Lname)) both).0,
-      target_at y (and_parts (has_target (x Lname)) (has_target (y Lname)) both).1,
-    )
+pub targets_from : (x y : Attributes) → HasTarget x × HasTarget y → have_targets x y ≡ true
+targets_from x y h = and_from (has_target (x Lname)) (has_target (y Lname)) (target_from x h.0) (target_from y h.1)
 
-no_device_by : (kind : FileType) (s : Sides) (a b : Option Value) → shares_content kind s a b ≡ true → is_device kind ≡ false
-no_device_by kinds.Char s a b e = cc
-no_device_by kinds.Block s a b e = cc
-no_device_by _ s a b e = refl
+-- files of the same content share a digest, and links have targets
+pub files_share : (x y : Attributes) (kind : FileType) → shares_content kind (sides_between x y) (have_targets x y) ≡ true
+    → kind ≡ kinds.File → SharesDigest x y
+files_share x y kind content is =
+    shared_by x y (ap (λ k. shares_content k (sides_between x y) (have_targets x y)) (sym is) ∙ content)
 
-agrees_by : (x y : Attributes) (o : Option FileType) → type_in (x Ftype) ≡ o → agree_by o x y ≡ true → Agrees x y
-agrees_by x y None is e = cc
-agrees_by x y (Some kind) is e = record {
-  kind = kind;
-  of_first = is;
-  of_second = sym (ap type_in (alike_by x y kind e Ftype (type_not_own (is_directory kind)) type_no_digest)) ∙ is;
-  no_device = no_device_by kind (sides_between x y) (x Lname) (y Lname)
-      (and_parts (shares_content kind (sides_between x y) (x Lname) (y Lname)) _ e).0;
-  alike = alike_by x y kind e;
-  digests = digests_by x y kind e;
-  shared = content_of_file x y kind e;
-  target = content_of_link x y kind e;
+pub links_have : (x y : Attributes) (kind : FileType) → shares_content kind (sides_between x y) (have_targets x y) ≡ true
+    → kind ≡ kinds.Link → HasTarget x × HasTarget y
+links_have x y kind content is =
+    targets_of x y (ap (λ k. shares_content k (sides_between x y) (have_targets x y)) (sym is) ∙ content)
+
+no_device_by : (kind : FileType) (s : Sides) (targets : Bool) → shares_content kind s targets ≡ true → is_device kind ≡ false
+no_device_by kinds.Char s targets e = cc
+no_device_by kinds.Block s targets e = cc
+no_device_by _ s targets e = refl
+
+known_by : (kind : FileType) (s : Sides) (targets : Bool) → shares_content kind s targets ≡ true → (bits : ℕ)
+    → kind ≢ kinds.Other bits
+known_by kind s targets e bits is = let f = ap (λ k. shares_content k s targets) (sym is) ∙ e in cc
+
+pub says_by : (x : Attributes) → says_rights (λ a. is_some (x a)) ≡ true → SaysRights x
+says_by x e =
+    let parts = and_parts (is_some (x Perm)) (is_some (x Uid) && is_some (x Gid)) e in
+    let others = and_parts (is_some (x Uid)) (is_some (x Gid)) parts.1 in
+    record { mode = parts.0; owner = others.0; group = others.1 }
+
+pub says_from : (x : Attributes) → SaysRights x → says_rights (λ a. is_some (x a)) ≡ true
+says_from x h =
+    and_from (is_some (x Perm)) (is_some (x Uid) && is_some (x Gid)) h.mode
+    (and_from (is_some (x Uid)) (is_some (x Gid)) h.owner h.group)
+
+-- what has the same permissions, owner and group says who may do what, as the other does
+pub says_too : (x y : Attributes) → SaysRights x → x Perm ≡ y Perm → x Uid ≡ y Uid → x Gid ≡ y Gid → SaysRights y
+says_too x y h mode owner group = record {
+  mode = ap is_some (sym mode) ∙ h.mode;
+  owner = ap is_some (sym owner) ∙ h.owner;
+  group = ap is_some (sym group) ∙ h.group;
 }
 
--- Entries that agree have one type, not that of devices, the same values but for what each machine has of its own and digests that only one
--- of them has, and the same content.
+agrees_by : (x y : Attributes) (o : Option FileType) → type_in (x Ftype) ≡ o → SaysRights x → are_same_if o x y ≡ true
+    → Agrees x y
+agrees_by x y None is says e = cc
+agrees_by x y (Some kind) is says e =
+    let content = (and_parts (shares_content kind (sides_between x y) (have_targets x y)) _ e).0 in
+    let kept = λ (a : Attr) (needed : is_needed a ≡ true). let no = needed_kept (is_directory kind) a needed in
+    alike_by x y kind e a no.0 no.1 in
+    record {
+      kind = kind;
+      of_first = is;
+      of_second = sym (ap type_in (alike_by x y kind e Ftype (type_not_own (is_directory kind)) type_no_digest)) ∙ is;
+      known = known_by kind (sides_between x y) (have_targets x y) content;
+      no_device = no_device_by kind (sides_between x y) (have_targets x y) content;
+      rights = (says, says_too x y says (kept Perm refl) (kept Uid refl) (kept Gid refl));
+      alike = alike_by x y kind e;
+      digests = digests_by x y kind e;
+      shared = files_share x y kind content;
+      target = links_have x y kind content;
+    }
+
+-- Entries that agree say who may do what, and have one type of Linux, not that of devices, the same values but for what each machine has of
+-- its own and digests that only one of them has, and the same content.
 pub meaning_of_agree : (x y : Attributes) → agree x y ≡ true → Agrees x y
 unfolding agree
-meaning_of_agree x y e = agrees_by x y (type_in (x Ftype)) refl e
+meaning_of_agree x y e =
+    let parts = and_parts (says_rights (λ a. is_some (x a))) (are_same_if (type_in (x Ftype)) x y) e in
+    agrees_by x y (type_in (x Ftype)) refl (says_by x parts.0) parts.1
 
-content_from : (x y : Attributes) (kind : FileType) → is_device kind ≡ false → (kind ≡ kinds.File → SharesDigest x y)
+pub content_from : (x y : Attributes) (kind : FileType) → ((bits : ℕ) → kind ≢ kinds.Other bits) → is_device kind ≡ false
+    → (kind ≡ kinds.File → SharesDigest x y)
     → (kind ≡ kinds.Link → HasTarget x × HasTarget y)
-    → shares_content kind (sides_between x y) (x Lname) (y Lname) ≡ true
-content_from x y kinds.File no_device shared target =
+    → shares_content kind (sides_between x y) (have_targets x y) ≡ true
+content_from x y kinds.File known no_device shared target =
     let digest = shared refl in
     some_at (is_shared (sides_between x y)) digest.attribute
     ((λ i. same_of (digest.in_first i) (digest.in_second i) && is_strong digest.attribute)
     ∙ ap (λ b. b && is_strong digest.attribute) (same_from digest.value) ∙ digest.strong)
-content_from x y kinds.Link no_device shared target =
+content_from x y kinds.Link known no_device shared target =
     let targets = target refl in rw (target_from x targets.0, target_from y targets.1) refl
-content_from x y kinds.Char no_device shared target = cc
-content_from x y kinds.Block no_device shared target = cc
-content_from x y _ no_device shared target = refl
+content_from x y kinds.Char known no_device shared target = cc
+content_from x y kinds.Block known no_device shared target = cc
+content_from x y (kinds.Other bits) known no_device shared target = absurd (known bits refl)
+content_from x y _ known no_device shared target = refl
 
 stays : (x y : Attributes) (h : Agrees x y) (a : Attr) → strays (is_directory h.kind) (sides_between x y) a ≡ false
 stays x y h a = elim (bool_cases (is_own (is_directory h.kind) a)) [
@@ -120,26 +161,50 @@ stays x y h a = elim (bool_cases (is_own (is_directory h.kind) a)) [
   ]
 ]
 
+same_by : (x y : Attributes) (h : Agrees x y) → are_same_if (Some h.kind) x y ≡ true
+same_by x y h =
+    and_from (shares_content h.kind (sides_between x y) (have_targets x y)) _
+    (content_from x y h.kind h.known h.no_device h.shared h.target)
+    (not_from_false _ (none_of (strays (is_directory h.kind) (sides_between x y)) (stays x y h) all_attrs))
+
 -- And entries of which this holds agree.
 pub agree_from_meaning : (x y : Attributes) → Agrees x y → agree x y ≡ true
 unfolding agree
-agree_from_meaning x y h = grind (arith, common_steps, none_of, stays, content_from)
+agree_from_meaning x y h =
+    and_from (says_rights (λ a. is_some (x a))) _ (says_from x h.rights.0)
+    (ap (λ o. are_same_if o x y) h.of_first ∙ same_by x y h)
 
 -- ---- agreement is an equivalence, as far as digests tell
 
 same_kind : (x y : FileType) → Some x ≡ Some y → x ≡ y
 same_kind x y e = cc
 
--- An entry that says what its content is agrees with itself.
-pub agree_itself : (x : Attributes) → SaysContent x → agree x x ≡ true
-agree_itself x h = search (rules, agree_from_meaning)
+-- An entry that says who may do what, and what its content is, agrees with itself.
+pub agree_itself : (x : Attributes) → SaysRights x → SaysContent x → agree x x ≡ true
+agree_itself x says h = agree_from_meaning x x (record {
+  kind = h.kind;
+  of_first = h.of_entry;
+  of_second = h.of_entry;
+  known = h.known;
+  no_device = h.no_device;
+  rights = (says, says);
+  alike = λ a own digest. refl;
+  digests = λ a digest u v is_u is_v. same_value_in (x a) u v is_u is_v;
+  shared = h.shared;
+  target = λ is. (h.target is, h.target is);
+})
+  where
+    same_value_in : (o : Option Value) (u v : Value) → o ≡ Some u → o ≡ Some v → u ≡ v
+    same_value_in o u v is_u is_v = let e = sym is_u ∙ is_v in cc
 
 turned : (x y : Attributes) → Agrees x y → Agrees y x
 turned x y h = record {
   kind = h.kind;
   of_first = h.of_second;
   of_second = h.of_first;
+  known = h.known;
   no_device = h.no_device;
+  rights = (h.rights.1, h.rights.0);
   alike = λ a own digest. sym (h.alike a own digest);
   digests = λ a digest u v is_u is_v. sym (h.digests a digest v u is_v is_u);
   shared = λ is. let d = h.shared is in record {
@@ -169,7 +234,9 @@ across x y z g h same =
       kind = g.kind;
       of_first = g.of_first;
       of_second = h.of_second ∙ ap Some (sym kind);
+      known = g.known;
       no_device = g.no_device;
+      rights = (g.rights.0, h.rights.1);
       alike = λ a own digest. g.alike a own digest ∙ h.alike a (owned a own) digest;
       digests = λ a digest u w is_u is_w.
           let middle = there (z a) w (y a) is_w (sym (same a digest)) in
@@ -206,11 +273,11 @@ by_trusted true trusted answer is e = let f = sym is ∙ e in cc
 by_trusted false true answer is e = refl
 by_trusted false false answer is e = let f = sym is ∙ e in cc
 
-old_agrees : (found trusted : Pair) → same_as found trusted ≡ Some Old → is_as_old found ≡ true
+pub old_agrees : (found trusted : Pair) → same_as found trusted ≡ Some Old → is_as_old found ≡ true
 unfolding same_as
 old_agrees found trusted e = by_tests (is_as_old found) (is_as_trusted found trusted) (same_as found trusted) refl e
 
-trusted_has : (found trusted : Pair) → same_as found trusted ≡ Some Trusted → is_as_trusted found trusted ≡ true
+pub trusted_has : (found trusted : Pair) → same_as found trusted ≡ Some Trusted → is_as_trusted found trusted ≡ true
 unfolding same_as
 trusted_has found trusted e = by_trusted (is_as_old found) (is_as_trusted found trusted) (same_as found trusted) refl e
 
@@ -265,14 +332,22 @@ trusted_gone old trusted e = gone old trusted (trusted_has (old, None) trusted e
 
 -- what agrees with another entry says what its content is
 second_says : (x y : Attributes) → Agrees x y → SaysContent y
-second_says x y h = search rules
+second_says x y h = record {
+  kind = h.kind;
+  of_entry = h.of_second;
+  known = h.known;
+  no_device = h.no_device;
+  shared = λ is. let d = h.shared is in
+      record { attribute = d.attribute; value = d.value; strong = d.strong; in_first = d.in_second; in_second = d.in_second };
+  target = λ is. (h.target is).1;
+}
 
 -- an entry that differs in no attribute from one that says its content agrees with it
-agree_unaffected : (x y : Attributes) → SaysContent y → list_any (is_affected (sides_between x y)) all_attrs ≡ false
+agree_unaffected : (x y : Attributes) → SaysRights y → SaysContent y → list_any (is_affected (sides_between x y)) all_attrs ≡ false
     → agree x y ≡ true
-agree_unaffected x y says none =
+agree_unaffected x y rights says none =
     let same : x ≡ y = λ i a. unaffected_at (x a) (y a) (none_at (is_affected (sides_between x y)) none a) i in
-    ap (λ z. agree z y) same ∙ agree_itself y says
+    ap (λ z. agree z y) same ∙ agree_itself y rights says
 
 alone_else : (old new : Attributes) → agree old new ≡ false → same_as (Some old, Some new) (None, None) ≡ None
 unfolding same_as
@@ -283,15 +358,36 @@ unaccounted_of : (new old told : Attributes) → agree new told ≡ true → agr
 unaccounted_of new old told e f = record {
   changed = elim (bool_cases (list_any (is_affected (sides_between old told)) all_attrs)) [
     | inl is ↦ is
-    | inr is ↦ let g = sym (agree_unaffected old told (second_says new told (meaning_of_agree new told e)) is) ∙ f in cc
+    | inr is ↦ let h = meaning_of_agree new told e in
+        let g = sym (agree_unaffected old told h.rights.1 (second_says new told h) is) ∙ f in cc
   ];
   alone = alone_else old told f;
 }
 
+came : (old before : Option Attributes) (new there : Attributes) → agree new there ≡ true → came_too old new before there ≡ true
+    → IsUnaccounted (before, Some there)
+unfolding same_as
+came None None new there e c = record { changed = refl; alone = refl }
+came (Some old) None new there e c = record { changed = refl; alone = refl }
+came (Some old) (Some before) new there e c =
+    unaccounted_of new before there e (not-true (agree before there) (and_parts (not (agree before there)) _ c).0)
+came None (Some before) new there e c = cc
+
+unaccounted : (found trusted : Pair) → is_as_trusted found trusted ≡ true → IsUnaccounted trusted
+unfolding same_as
+unaccounted (old, Some new) (before, Some there) e =
+    let parts = and_parts (agree new there) (came_too old new before there) e in
+    came old before new there parts.0 parts.1
+unaccounted (Some old, None) (Some before, None) e = record { changed = refl; alone = refl }
+unaccounted (None, None) _ e = cc
+unaccounted (Some old, None) (None, None) e = cc
+unaccounted (Some old, None) (None, Some there) e = cc
+unaccounted (Some old, None) (Some before, Some there) e = cc
+unaccounted (old, Some new) (before, None) e = cc
+
 -- At each path for which a trusted machine accounts, its own databases have one for which their old entry does not.
 pub trusted_changed : (found trusted : Pair) → same_as found trusted ≡ Some Trusted → IsUnaccounted trusted
-unfolding same_as
-trusted_changed found trusted e = search (rules, trusted_has, unaccounted_of, and_parts, not-true)
+trusted_changed found trusted e = unaccounted found trusted (trusted_has found trusted e)
 
 -- At a path that a trusted machine never had, nothing is accounted for by it.
 pub none_without_path : (found : Pair) → same_as found (None, None) ≡ Some Trusted → ⊥

@@ -44,3 +44,9 @@ pub any_in : (r : AttrSet) (p : Attr → Bool) (empty : Bool) → ((a : Attr) �
     → (IsTrue empty ↔ ((a : Attr) → has r a ≡ false)) → not empty ≡ list_any p all_attrs
 any_in r p true same tells = sym (none_of p (λ a. sym (same a) ∙ tells.0 refl a) all_attrs)
 any_in r p false same tells = sym (some_of p (λ h. let e = tells.1 (λ a. same a ∙ h a) in cc))
+
+-- and it is empty exactly if none does
+pub none_in : (r : AttrSet) (p : Attr → Bool) (empty : Bool) → ((a : Attr) → has r a ≡ p a)
+    → (IsTrue empty ↔ ((a : Attr) → has r a ≡ false)) → empty ≡ not (list_any p all_attrs)
+none_in r p true same tells = ap not (any_in r p true same tells)
+none_in r p false same tells = ap not (any_in r p false same tells)

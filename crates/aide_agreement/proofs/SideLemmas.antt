@@ -1,5 +1,7 @@
 -- Two values at one attribute: whether entries stray from each other there, and what they share.
-use Rattle.std.proofs.Common.{◌≡◌, ◌∙◌, Bool, true, false, refl, sym, ap, rules}
+use Rattle.std.proofs.Common.{◌≡◌, ◌≢◌, ◌∙◌, Bool, true, false, refl, sym, ap, inl, inr, rules}
+use Rattle.std.proofs.lemmas.Bool.{both_ways}
+use Rattle.aide_attr.proofs.WalkLemmas.{bool_cases}
 use Rattle.std.specs.Prelude.{◌||◌, ◌&&◌, not, Option, Some, None, is_some}
 use Rattle.aide_attr.specs.declared.attr.Attr.TheVariants.{Lname}
 use Rattle.aide_entry.specs.Attributes.{Attributes, Value, link_value}
@@ -22,7 +24,7 @@ negated : (b : Bool) → not b ≡ false → b ≡ true
 negated true e = refl
 negated false e = cc
 
-equal_values : (u v : Value) → is_different (Some u) (Some v) ≡ false → u ≡ v
+pub equal_values : (u v : Value) → is_different (Some u) (Some v) ≡ false → u ≡ v
 equal_values u v e = (same_value-Decides u v).0 (negated _ e)
 
 never : (u : Value) → is_different (Some u) (Some u) ≡ false
@@ -78,6 +80,47 @@ unaffected_at None None e = refl
 unaffected_at None (Some v) e = cc
 unaffected_at (Some u) None e = cc
 unaffected_at (Some u) (Some v) e = search (rules, equal_values)
+
+-- whether two values differ, or only one is there
+abbrev pub affected_of : (x y : Option Value) → Bool
+affected_of x y =
+    (is_different x y && is_some x && is_some y) || (is_some y && not (is_some x)) || (is_some x && not (is_some y))
+
+pub unaffected_from : (x y : Option Value) → x ≡ y → affected_of x y ≡ false
+unaffected_from x y e = search rules
+
+pub affected_from : (x y : Option Value) → x ≢ y → affected_of x y ≡ true
+affected_from x y apart = elim (bool_cases (affected_of x y)) [
+  | inl is ↦ is
+  | inr is ↦ absurd (apart (unaffected_at x y is))
+]
+
+pub affected_apart : (x y : Option Value) → affected_of x y ≡ true → x ≢ y
+affected_apart x y is e = both_ways (affected_of x y) (unaffected_from x y e) is
+
+-- whether both are there, and differ
+abbrev pub changed_of : (x y : Option Value) → Bool
+changed_of x y = is_different x y && is_some x && is_some y
+
+pub apart_by : (u v : Value) → changed_of (Some u) (Some v) ≡ true → u ≢ v
+apart_by u v e is =
+    both_ways (changed_of (Some u) (Some u)) (ap (λ b. b && true && true) (never u))
+    (ap (λ w. changed_of (Some u) (Some w)) is ∙ e)
+
+pub differ_at : (x y : Option Value) → changed_of x y ≡ true
+    → (u : Value) × (v : Value) × (x ≡ Some u) × (y ≡ Some v) × (u ≢ v)
+differ_at None y e = cc
+differ_at (Some u) None e = cc
+differ_at (Some u) (Some v) e = (u, v, refl, refl, apart_by u v e)
+
+pub differ_from : (x y : Option Value) (u v : Value) → x ≡ Some u → y ≡ Some v → u ≢ v → changed_of x y ≡ true
+differ_from x y u v is_u is_v apart = (λ i. changed_of (is_u i) (is_v i)) ∙ by
+  where
+    by : changed_of (Some u) (Some v) ≡ true
+    by = elim (bool_cases (is_different (Some u) (Some v))) [
+      | inl e ↦ ap (λ b. b && true && true) e
+      | inr e ↦ absurd (apart (equal_values u v e))
+    ]
 
 -- ---- and back
 

@@ -5,6 +5,7 @@ use Rattle.aide_attr.specs.Attr.{all_attrs}
 use Rattle.aide_attr.specs.Difference.{is_affected}
 use Rattle.aide_entry.specs.Attributes.{Attributes, sides_between}
 use Rattle.aide_agreement.specs.Agreement.{agree}
+use Rattle.aide_agreement.specs.Trusted.{changed_too, keeps_rights}
 use Rattle.aide_agreement.specs.declared.account.SameAs.{SameAs}
 use Rattle.aide_agreement.specs.declared.account.SameAs.TheVariants.{Old, Trusted}
 
@@ -17,13 +18,22 @@ abbrev pub is_as_old : Pair → Bool
 is_as_old (Some old, Some new) = agree old new
 is_as_old _ = false
 
+-- A new entry came as the one that agrees with it came on a trusted machine: both are new; or only that one is, and
+-- here no right changed; or that one does not agree with the one before, and what changed here changed there too.
+abbrev pub came_too : (old : Option Attributes) → (new : Attributes) → (before : Option Attributes)
+    → (there : Attributes) → Bool
+came_too None new None there = true
+came_too (Some old) new None there = keeps_rights old new
+came_too (Some old) new (Some before) there =
+    not (agree before there) && changed_too old new before there
+came_too None new (Some before) there = false
+
 -- The same happened at this path of a trusted machine. If there is a new entry, the machine's new entry agrees with it,
--- and the machine's old entry is missing or does not agree with the machine's new one. If the entry was removed, the
--- machine removed one that agrees with it.
+-- and came as it did. If the entry was removed, the machine removed one that agrees with it.
 abbrev pub is_as_trusted : (found trusted : Pair) → Bool
-is_as_trusted (old, Some new) (trusted_old, Some trusted_new) =
-    agree new trusted_new && not (is_as_old (trusted_old, Some trusted_new))
-is_as_trusted (Some old, None) (Some trusted_old, None) = agree old trusted_old
+is_as_trusted (old, Some new) (before, Some there) =
+    agree new there && came_too old new before there
+is_as_trusted (Some old, None) (Some before, None) = agree old before
 is_as_trusted _ _ = false
 
 -- what accounts for a change: the old entry is asked first, then the trusted machine

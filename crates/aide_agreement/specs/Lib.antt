@@ -1,5 +1,9 @@
 pub mod Own
 pub mod Agreement
 pub mod Meaning
+pub mod Trusted
 pub mod Account
+pub mod Happened
 pub mod Found
+pub mod ChangeView
+pub mod Kind

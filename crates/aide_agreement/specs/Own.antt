@@ -1,5 +1,5 @@
 -- The attributes that are a machine's own, and the digests that distinguish two contents.
-use Rattle.std.specs.Prelude.{ℕ, nat_le, Bool, true, false, ◌&&◌, ◌||◌, List, [], ◌∷◌}
+use Rattle.std.specs.Prelude.{ℕ, nat_le, Bool, true, false, not, ◌&&◌, ◌||◌, List, [], ◌∷◌}
 use Rattle.std.specs.List.{list_any}
 use Rattle.aide_attr.specs.Attr.{form_of}
 use Rattle.aide_attr.specs.Set.{is_attr}
@@ -48,6 +48,25 @@ least_bytes _ = 0
 -- whether the attribute is a digest
 abbrev pub is_digest : Attr → Bool
 is_digest a = is_digest_form (form_of a)
+
+-- what says where a link leads, and how many names a file or a directory has
+abbrev pub link_attrs : List Attr
+link_attrs = attr.Lname ∷ attr.Linkcount ∷ []
+
+-- Whether the attribute says who may do what with a file, or what it is: no machine's own, no size, no digest, no
+-- target and not the link count. This leaves the type, the permissions, the owner, the group, the access list, extended
+-- attributes, the label, flags and capabilities.
+abbrev pub is_right : Attr → Bool
+is_right a = not (is_own true a || (is_digest a || list_any (is_attr a) link_attrs))
+
+-- what says what a content is, beside its digests: the type of the file, its size, and the target of a link
+abbrev pub content_attrs : List Attr
+content_attrs = attr.Ftype ∷ attr.Size ∷ attr.Lname ∷ []
+
+-- whether the attribute says what the content is, and no machine has it of its own
+abbrev pub is_content : (directories : Bool) → Attr → Bool
+is_content directories a =
+    (is_digest a || list_any (is_attr a) content_attrs) && not (is_own directories a)
 
 -- whether the attribute is a digest of at least 256 bits
 abbrev pub is_strong : Attr → Bool

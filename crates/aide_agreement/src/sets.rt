@@ -1,9 +1,9 @@
 //! Sets of attributes by which entries are compared.
 ghost use Rattle.std.specs.Prelude.{◌≡◌, ◌||◌, ◌&&◌};
 ghost use Rattle.std.specs.List.{list_any};
-ghost use Rattle.aide_attr.specs.Difference.{is_changed, is_same, sides_of};
+ghost use Rattle.aide_attr.specs.Difference.{is_affected, is_changed, is_same, sides_of};
 ghost use Rattle.aide_attr.specs.Set.{has, is_attr};
-ghost use Rattle.aide_agreement.specs.Own.{is_digest, is_own, is_strong};
+ghost use Rattle.aide_agreement.specs.Own.{is_content, is_digest, is_own, is_right, is_strong};
 ghost use Rattle.aide_agreement.specs.Agreement.{is_alone};
 
 use aide_attr::{Attr, AttrSet, Delta};
@@ -44,6 +44,22 @@ const WEAK: [Attr; 8] = [
     Attr::Gost,
 ];
 
+/// Who may do what with a file, and what it is.
+const RIGHTS: [Attr; 9] = [
+    Attr::Ftype,
+    Attr::Perm,
+    Attr::Uid,
+    Attr::Gid,
+    Attr::Acl,
+    Attr::Xattrs,
+    Attr::Selinux,
+    Attr::E2fsattrs,
+    Attr::Caps,
+];
+
+/// What says what a content is, beside its digests.
+const OF_CONTENT: [Attr; 3] = [Attr::Ftype, Attr::Size, Attr::Lname];
+
 /// Returns the set of these attributes.
 fn set_of(attrs: &[Attr]) -> AttrSet
     ensures { (attr : Attr) → has result attr ≡ list_any (is_attr attr) attrs.now }
@@ -80,6 +96,20 @@ pub(crate) fn digests() -> AttrSet
     set_of(&STRONG).union(set_of(&WEAK))
 }
 
+/// Returns the attributes that say who may do what with a file, and what it is.
+pub(crate) fn rights() -> AttrSet
+    ensures { (attr : Attr) → has result attr ≡ is_right attr }
+{
+    set_of(&RIGHTS)
+}
+
+/// Returns the attributes that say what the content is.
+pub(crate) fn content(directories: bool) -> AttrSet
+    ensures { (attr : Attr) → has result attr ≡ is_content directories attr }
+{
+    digests().union(set_of(&OF_CONTENT)).minus(own(directories))
+}
+
 /// Returns the attributes that both entries have, with different values.
 pub(crate) fn changed(delta: &Delta) -> AttrSet
     ensures { (attr : Attr) → has result attr ≡ is_changed (sides_of delta.now) attr }
@@ -94,6 +124,13 @@ pub(crate) fn alone(delta: &Delta) -> AttrSet
     let added = delta.new.minus(delta.old);
     let removed = delta.old.minus(delta.new);
     added.union(removed)
+}
+
+/// Returns the attributes that two entries do not have alike: with different values, or only one of them.
+pub(crate) fn affected(delta: &Delta) -> AttrSet
+    ensures { (attr : Attr) → has result attr ≡ is_affected (sides_of delta.now) attr }
+{
+    changed(delta).union(alone(delta))
 }
 
 /// Returns the attributes that both entries have, with the same value.

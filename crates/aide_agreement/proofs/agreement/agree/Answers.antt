@@ -1,26 +1,23 @@
-use Rattle.std.proofs.Common.{◌∙◌, sym, rules}
 use Rattle.aide_attr.specs.Difference.{sides_of}
 use Rattle.aide_entry.specs.View.{entry_in}
-use Rattle.aide_agreement.proofs.AgreeLemmas.{agree_else, agree_none, agree_then, same_sides}
+use Rattle.aide_agreement.proofs.AgreeLemmas.{agree_else, agree_then, same_sides}
 use Rattle.aide_agreement.proofs.agreement.agree.Goals as goal
 
-pub returns-in-None : goal.returns-in-None
-returns-in-None c = search (rules, agree_none)
-
-pub returns-then-share_content : goal.returns-then-share_content
-returns-then-share_content c =
+pub returns-then-say_rights : goal.returns-then-say_rights
+returns-then-say_rights c =
     let x = (entry_in c.args.first.now).1 in
     let y = (entry_in c.args.second.now).1 in
     let d = c.delta_of-delta.ensures in
-    agree_then x y (sides_of c.delta_of-delta.result) c.in-Some.kind c.is_directory.result c.stray.result
+    agree_then (sides_of c.delta_of-delta.result) x y
     (same_sides c.delta_of-delta.result x y d.in_old d.in_new d.differs d.size d.old_type d.new_type)
-    (sym d.old_type ∙ c.in-Some.is) c.if-share_content.ensures c.is_directory.ensures c.stray.ensures
+    c.are_same.result c.have_targets-targets.result c.have_targets-targets.ensures c.if-say_rights.ensures
+    c.are_same.ensures
 
-pub returns-else-share_content : goal.returns-else-share_content
-returns-else-share_content c =
+pub returns-else-say_rights : goal.returns-else-say_rights
+returns-else-say_rights c =
     let x = (entry_in c.args.first.now).1 in
     let y = (entry_in c.args.second.now).1 in
     let d = c.delta_of-delta.ensures in
-    agree_else x y (sides_of c.delta_of-delta.result) c.in-Some.kind c.share_content.result
+    agree_else (sides_of c.delta_of-delta.result) x y
     (same_sides c.delta_of-delta.result x y d.in_old d.in_new d.differs d.size d.old_type d.new_type)
-    (sym d.old_type ∙ c.in-Some.is) c.if-share_content.ensures c.share_content.ensures
+    c.say_rights.result c.say_rights.ensures c.if-say_rights.ensures
