@@ -1,10 +1,10 @@
 -- What it means that a list leaves out a change, and laws of it.
 use Rattle.std.proofs.lemmas.Grind.{common_steps}
 use Rattle.std.proofs.Common.{◌≡◌, ◌∙◌, ℕ, Bool, true, false, refl, sym, ap, subst, inl, inr, eq-eqb, rules, List, [], ◌∷◌, ◌++◌, arith}
-use Rattle.std.specs.Prelude.{not, ◌==◌, ◌%◌, ℤ, pos, ◌&&◌, ◌||◌, Option, Some, None, IfSome}
+use Rattle.std.specs.Prelude.{not, ◌==◌, ◌%◌, ℤ, pos, ◌&&◌, ◌||◌, Option, Some, None, IfSome, is_some}
 use Rattle.std.proofs.lemmas.Bool.{and_from, and_parts, not-true, not_from_false, or_from, both_ways}
 use Rattle.aide_agreement.specs.Account.{Pair}
-use Rattle.aide_attr.specs.declared.attr.Attr.TheVariants.{Ftype, Perm}
+use Rattle.aide_attr.specs.declared.attr.Attr.TheVariants.{Ftype, Gid, Perm, Uid}
 use Rattle.aide_attr.specs.declared.file_type.FileType.{FileType}
 use Rattle.aide_attr.specs.declared.file_type.FileType.TheVariants.{Directory}
 use Rattle.aide_entry.specs.Attributes.{Attributes, type_in}
@@ -13,6 +13,7 @@ use Rattle.aide_left_out.specs.LeftOut.{has_entry, has_program, is_harmless_if, 
 use Rattle.aide_left_out.specs.Meaning.{GivesRight, IsHarmless, IsLeftOut, IsThere, KeepsWriters}
 use Rattle.aide_left_out.specs.Meaning.{by_setting, by_unknown_type, by_unknown_mode, by_user_id, by_group_id}
 use Rattle.aide_left_out.specs.Meaning.{by_capabilities, by_old_program, by_new_program, by_device, by_directory, by_owner}
+use Rattle.aide_left_out.specs.Meaning.{by_unknown_group, by_unknown_owner}
 use Rattle.aide_left_out.specs.Rights.{is_of_program, is_program_by, is_root, is_within_reach, mode_in}
 use Rattle.aide_left_out.specs.Settings.{is_setting}
 use Rattle.aide_left_out.specs.Writers.{is_directory, is_directory_type, opens_directory}
@@ -171,6 +172,10 @@ never_out rules measures path pair line h (by_new_program entry is program unmea
     grind (arith, common_steps, harmless_there, both_ways, measured_program)
 never_out rules measures path pair line h (by_directory after is directory writable others) =
     let o = (h.writers after is directory).others writable in others o.0 o.1 o.2 o.3 o.4 o.5
+never_out rules measures path pair line h (by_unknown_owner after is directory none) =
+    both_ways (is_some (after Uid)) (ap is_some none) (h.writers after is directory).owned
+never_out rules measures path pair line h (by_unknown_group after is directory writable none) =
+    both_ways (is_some (after Gid)) (ap is_some none) ((h.writers after is directory).grouped writable)
 never_out rules measures path pair line h (by_owner before after was is was_directory directory other) =
     other ((h.writers after is directory).owner before was was_directory)
 

@@ -1,13 +1,15 @@
 -- Who can write a directory, in facts.
-use Rattle.std.proofs.Common.{◌≡◌, ◌∙◌, Bool, true, false, refl, ap, rules}
+use Rattle.std.proofs.Common.{◌≡◌, ◌∙◌, Bool, true, false, refl, ap, inl, inr, rules}
 use Rattle.std.specs.Prelude.{◌||◌, ◌&&◌, not, Option, Some, None, is_some, if◌then◌else◌}
-use Rattle.std.proofs.lemmas.Bool.{and_from, and_parts, cases_Bool, not-true, not_from_false, both_ways}
+use Rattle.std.proofs.lemmas.Bool.{and_from, and_parts, not-false, not-true, not_from_false, both_ways, or_from, or_parts}
 use Rattle.aide_attr.specs.declared.attr.Attr.{Attr}
 use Rattle.aide_attr.specs.declared.attr.Attr.TheVariants.{Acl, Gid, Perm, Uid}
+use Rattle.aide_attr.proofs.WalkLemmas.{bool_cases}
 use Rattle.aide_entry.specs.Attributes.{Attributes, Value, is_different}
 use Rattle.aide_agreement.proofs.SideLemmas.{unaffected_at}
 use Rattle.aide_left_out.specs.Meaning.{KeepsWriters}
-use Rattle.aide_left_out.specs.Writers.{gains_writers, is_directory, is_kept, keeps_writers, others_write}
+use Rattle.aide_left_out.specs.Writers.{admits_writers, gains_writers, is_directory, is_kept, keeps_writers, knows_writers}
+use Rattle.aide_left_out.specs.Writers.{others_write}
 
 kept_means : (before after : Attributes) (a : Attr) → is_kept before after a ≡ true → before a ≡ after a
 kept_means before after a h = unaffected_at (before a) (after a) (not-true _ h)
@@ -55,18 +57,54 @@ behind false b e h = cc
 same_there : {X : Type 0} (x y : X) → Some x ≡ Some y → x ≡ y
 same_there x y e = cc
 
-writers_kept : (before after : Attributes) → is_directory before ≡ true → keeps_writers before after ≡ true
-    → KeepsWriters (Some before) after
-writers_kept before after directory h = search (rules, and_parts, others_kept, kept_means, same_there)
+-- the owner of a directory is known, and its group if others may write it
+abbrev Known : Attributes → Type 0
+Known after = (is_some (after Uid) ≡ true) × (others_write after ≡ true → is_some (after Gid) ≡ true)
 
-writers_closed : (before after : Attributes) → is_directory before ≡ false → others_write after ≡ false
+grouped_by : (o g : Bool) → (not o || g) ≡ true → o ≡ true → g ≡ true
+grouped_by true g h e = h
+grouped_by false g h e = cc
+
+known_means : (after : Attributes) → knows_writers after ≡ true → Known after
+known_means after h =
+    let parts = and_parts (is_some (after Uid)) (not (others_write after) || is_some (after Gid)) h in
+    (parts.0, grouped_by (others_write after) (is_some (after Gid)) parts.1)
+
+known_from : (after : Attributes) → Known after → knows_writers after ≡ true
+known_from after h = and_from (is_some (after Uid)) _ h.0 (by (others_write after) (is_some (after Gid)) h.1)
+  where
+    by : (o g : Bool) → (o ≡ true → g ≡ true) → (not o || g) ≡ true
+    by true g h = h refl
+    by false g h = refl
+
+writers_kept : (before after : Attributes) → Known after → is_directory before ≡ true → keeps_writers before after ≡ true
     → KeepsWriters (Some before) after
-writers_closed before after other closed = search (rules, both_ways, same_there)
+writers_kept before after known directory h = search (rules, and_parts, others_kept, kept_means, same_there)
+
+writers_closed : (before after : Attributes) → Known after → is_directory before ≡ false → others_write after ≡ false
+    → KeepsWriters (Some before) after
+writers_closed before after known other closed = search (rules, both_ways, same_there)
+
+writers_new : (after : Attributes) → Known after → others_write after ≡ false → KeepsWriters None after
+writers_new after known closed = search (rules, both_ways)
+
+admits_none : (old_one : Option Attributes) (after : Attributes) → Known after → admits_writers old_one after ≡ false
+    → KeepsWriters old_one after
+admits_none None after known h = writers_new after known h
+admits_none (Some before) after known h =
+    elim (bool_cases (is_directory before)) [
+      | inl was ↦ writers_kept before after known was
+          (kept_by (is_directory before) (others_write after) (keeps_writers before after) was h)
+      | inr other ↦ writers_closed before after known other
+          (closed_by (is_directory before) (others_write after) (keeps_writers before after) other h)
+    ]
 
 pub writers_mean : (old_one : Option Attributes) (after : Attributes) → gains_writers old_one after ≡ false
     → is_directory after ≡ true → KeepsWriters old_one after
-writers_mean None after h directory = search (rules, both_ways, behind)
-writers_mean (Some before) after h directory = search (rules, behind, cases_Bool, writers_kept, kept_by, writers_closed, closed_by)
+writers_mean old_one after h directory =
+    let neither = or_parts (admits_writers old_one after) (not (knows_writers after))
+    (behind (is_directory after) _ directory h) in
+    admits_none old_one after (known_means after (not-false (knows_writers after) neither.1)) neither.0
 
 -- ---- and back
 
@@ -76,8 +114,10 @@ no_gain false o k h l = l refl
 
 pub writers_from : (old_one : Option Attributes) (after : Attributes)
     → (is_directory after ≡ true → KeepsWriters old_one after) → gains_writers old_one after ≡ false
-writers_from None after h = search rules
-writers_from (Some before) after h = search (rules, no_gain, none_by, closed, keeps, stays_closed)
+writers_from old_one after h =
+    none_by (is_directory after) _ (λ is. let k = h is in
+    or_from (admits_writers old_one after) (not (knows_writers after)) (admits old_one after k)
+    (ap not (known_from after (k.owned, k.grouped))))
   where
     none_by : (d o : Bool) → (d ≡ true → o ≡ false) → (d && o) ≡ false
     none_by true o h = h refl
@@ -104,3 +144,9 @@ writers_from (Some before) after h = search (rules, no_gain, none_by, closed, ke
     stays_closed before after k was = closed (others_write after)
         (λ writable. let o = k.others writable in
         both_ways (is_directory before) was (ap is_directory (same_there before o.0 o.1) ∙ o.2))
+
+    admits : (old_one : Option Attributes) (after : Attributes) → KeepsWriters old_one after → admits_writers old_one after ≡ false
+    admits None after k = closed (others_write after) (λ writable. let o = k.others writable in let e = o.1 in cc)
+    admits (Some before) after k =
+        no_gain (is_directory before) (others_write after) (keeps_writers before after) (keeps before after k)
+        (stays_closed before after k)

@@ -31,7 +31,8 @@ pub record IsHarmless (measures : Bool) (entry : Attributes) : Type 0 where
   -- the database of a program contains the column of capabilities
   pub measured : is_program kind mode ≡ true → measures ≡ true
 
--- Who may write a directory could write it before, or owns it; if it was a directory before, its owner is the same.
+-- Who may write a directory is known, and could write it before, or owns it; if it was a directory before, its owner is
+-- the same.
 pub record KeepsWriters (old_one : Option Attributes) (after : Attributes) : Type 0 where
   -- a directory that others than its owner may write was one before, with the same permissions, group and access list
   pub others : others_write after ≡ true → (before : Attributes) × (old_one ≡ Some before)
@@ -40,6 +41,9 @@ pub record KeepsWriters (old_one : Option Attributes) (after : Attributes) : Typ
   -- a directory that was one before has the same owner
   pub owner : (before : Attributes) → old_one ≡ Some before → is_directory before ≡ true
       → before Uid ≡ after Uid
+  -- its owner is known, and its group if others may write it
+  pub owned : is_some (after Uid) ≡ true
+  pub grouped : others_write after ≡ true → is_some (after Gid) ≡ true
 
 -- one of the databases has this entry
 abbrev pub IsThere : Attributes → Pair → Type 0
@@ -94,6 +98,11 @@ pub data GivesRight (measures : Measures) (path : List ℕ) (pair : Pair) : Type
       → ((before : Attributes) → pair.0 ≡ Some before → is_directory before ≡ true
       → before Perm ≡ after Perm → before Gid ≡ after Gid → before Acl ≢ after Acl)
       → GivesRight measures path pair
+  -- a directory that belongs to nobody knows whom, or to which group, if others than its owner may write it
+  by_unknown_owner : (after : Attributes) → pair.1 ≡ Some after → is_directory after ≡ true
+      → after Uid ≡ None → GivesRight measures path pair
+  by_unknown_group : (after : Attributes) → pair.1 ≡ Some after → is_directory after ≡ true
+      → others_write after ≡ true → after Gid ≡ None → GivesRight measures path pair
   -- a directory with another owner than before
   by_owner : (before after : Attributes) → pair.0 ≡ Some before → pair.1 ≡ Some after
       → is_directory before ≡ true → is_directory after ≡ true → before Uid ≢ after Uid

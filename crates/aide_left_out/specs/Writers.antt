@@ -1,6 +1,6 @@
 -- Who can write a directory.
 use Rattle.std.specs.Prelude.{ℕ, Bool, true, false, not, ◌&&◌, ◌||◌, if◌then◌else◌, Option}
-use Rattle.std.specs.Prelude.{Some, None}
+use Rattle.std.specs.Prelude.{Some, None, is_some}
 use Rattle.aide_attr.specs.Difference.{is_affected}
 use Rattle.aide_attr.specs.declared.attr.Attr.{Attr}
 use Rattle.aide_attr.specs.declared.attr.Attr.TheVariants.{Acl, Ftype, Gid, Perm, Uid}
@@ -39,12 +39,21 @@ keeps_writers before after = is_kept before after Uid
     && (not (others_write after)
     || (is_kept before after Perm && (is_kept before after Gid && is_kept before after Acl)))
 
--- A directory may have new writers. If it was a directory before, its owner, or what decides on others who may write
--- it, is not the same. Otherwise others than its owner may write it.
+-- Somebody but its owner may write a directory who perhaps could not before. If it was a directory before, its owner,
+-- or what decides on others who may write it, is not the same. Otherwise others than its owner may write it.
+abbrev pub admits_writers : Option Attributes → (after : Attributes) → Bool
+admits_writers None after = others_write after
+admits_writers (Some before) after =
+    if is_directory before then not (keeps_writers before after) else others_write after
+
+-- who may write a directory is known: its owner is, and its group if others than its owner may write it
+abbrev pub knows_writers : Attributes → Bool
+knows_writers after = is_some (after Uid) && (not (others_write after) || is_some (after Gid))
+
+-- a directory may have new writers: it has some, or they may be anybody
 abbrev pub gains_writers : Option Attributes → (after : Attributes) → Bool
-gains_writers None after = is_directory after && others_write after
-gains_writers (Some before) after = is_directory after
-    && (if is_directory before then not (keeps_writers before after) else others_write after)
+gains_writers old_one after =
+    is_directory after && (admits_writers old_one after || not (knows_writers after))
 
 -- the new entry, if there is one, is a directory with new writers
 abbrev pub opens_directory : (old_one new_one : Option Attributes) → Bool

@@ -15,7 +15,7 @@ use aide_patterns::Exclusions;
 
 /// Which of two databases have the column of capabilities. An entry of another one does not say that a program has
 /// none.
-#[derive(Clone, Copy, Debug, PartialEq, Eq)]
+#[derive(Clone, Copy, PartialEq, Eq)]
 pub struct Measures {
     /// Whether the old one has.
     pub of_old: bool,
@@ -74,7 +74,7 @@ fn left_out_at(
     named: &View<'_>,
     old_one: Option<View<'_>>,
     new_one: Option<View<'_>>,
-    room: &mut [u8; 4096],
+    room: &mut [u8; 3839],
 ) -> Option<u64>
     requires { has_entry (found old_one, found new_one) ≡ true }
     ensures { result ≡ left_out list.now measures (entry_in named.now).0
@@ -97,7 +97,7 @@ fn line_of_change(
     measures: Measures,
     old_one: Option<View<'_>>,
     new_one: Option<View<'_>>,
-    room: &mut [u8; 4096],
+    room: &mut [u8; 3839],
 ) -> Option<u64>
     ensures { result ≡ left_out list.now measures (path_of old_one.entry new_one.entry)
         (found old_one.entry, found new_one.entry) }
@@ -119,7 +119,7 @@ pub fn left_out(
     measures: Measures,
     old_one: Option<View<'_>>,
     new_one: Option<View<'_>>,
-    room: &mut [u8; 4096],
+    room: &mut [u8; 3839],
 ) -> Option<u64>
     ensures account { result ≡ left_out list.now measures (path_of old_one.entry new_one.entry)
         (found old_one.entry, found new_one.entry) }

@@ -9,8 +9,9 @@ ghost use Rattle.aide_left_out.specs.Settings.{is_at, is_setting};
 use aide_entry::{Decoded, View};
 use aide_patterns::Exclusions;
 
-/// Linux opens no file by a longer path.
-const LONGEST: usize = 4096;
+/// AIDE sees no path of more than 4,095 bytes. In a directory at this path it sees each entry: a slash and a name of
+/// 255 bytes, the longest one of Linux, still fit.
+const LONGEST: usize = 3839;
 
 /// Returns whether a field may have an escape.
 fn has_escape(field: &[u8]) -> bool
@@ -50,7 +51,7 @@ pub(crate) fn line_at(
     list: &Exclusions<'_>,
     view: &View<'_>,
     is_program: bool,
-    room: &mut [u8; 4096],
+    room: &mut [u8; 3839],
 ) -> Option<u64>
     ensures { result ≡ line_at list.now (entry_in view.now).0 is_program }
 {

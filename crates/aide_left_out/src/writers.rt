@@ -6,8 +6,9 @@ ghost use Rattle.aide_attr.specs.declared.attr.Attr.{Attr};
 ghost use Rattle.aide_entry.specs.Attributes.{sides_between};
 ghost use Rattle.aide_entry.specs.View.{entry_in};
 ghost use Rattle.aide_agreement.specs.Found.{found};
-ghost use Rattle.aide_left_out.specs.Writers.{gains_writers, is_directory, keeps_writers};
-ghost use Rattle.aide_left_out.specs.Writers.{opens_directory, others_write};
+ghost use Rattle.aide_left_out.specs.Writers.{admits_writers, gains_writers, is_directory};
+ghost use Rattle.aide_left_out.specs.Writers.{keeps_writers, knows_writers, opens_directory};
+ghost use Rattle.aide_left_out.specs.Writers.{others_write};
 
 use crate::entry::{has_bit, mode_of};
 use aide_attr::{Attr, AttrSet, FileType};
@@ -53,13 +54,10 @@ fn keeps_writers(before: &View<'_>, after: &View<'_>) -> bool
             || (!affected.has(Attr::Perm) && !affected.has(Attr::Gid) && !affected.has(Attr::Acl)))
 }
 
-/// Returns whether an entry is that of a directory that others than a new owner may write and perhaps could not before.
-fn gains_writers(before: Option<View<'_>>, after: &View<'_>) -> bool
-    ensures { result ≡ gains_writers (found before.entry) (entry_in after.now).1 }
+/// Returns whether somebody but its owner may write a directory who perhaps could not before.
+fn admits_writers(before: Option<View<'_>>, after: &View<'_>) -> bool
+    ensures { result ≡ admits_writers (found before.entry) (entry_in after.now).1 }
 {
-    if !is_directory(after) {
-        return false;
-    }
     let Some(before) = before else {
         return others_write(after);
     };
@@ -68,6 +66,21 @@ fn gains_writers(before: Option<View<'_>>, after: &View<'_>) -> bool
     } else {
         others_write(after)
     }
+}
+
+/// Returns whether an entry says who may write its directory: the owner, and the group if others than the owner may.
+fn knows_writers(after: &View<'_>) -> bool
+    ensures { result ≡ knows_writers (entry_in after.now).1 }
+{
+    let attrs = after.attrs();
+    attrs.has(Attr::Uid) && (!others_write(after) || attrs.has(Attr::Gid))
+}
+
+/// Returns whether an entry is that of a directory that may have new writers.
+fn gains_writers(before: Option<View<'_>>, after: &View<'_>) -> bool
+    ensures { result ≡ gains_writers (found before.entry) (entry_in after.now).1 }
+{
+    is_directory(after) && (admits_writers(before, after) || !knows_writers(after))
 }
 
 /// Returns whether the new entry, if there is one, is such a directory.
