@@ -7,7 +7,7 @@ use Rattle.aide_merge.specs.RunFaults.{IsFirst, IsRight}
 use Rattle.aide_text.specs.Failures.{Rose}
 use Rattle.aide_merge.specs.declared.run_fault.RunFault.{RunFault}
 use Rattle.aide_merge.specs.declared.run_fault.RunFault.TheVariants.{Open, Database}
-use Rattle.aide_db.specs.Count.{one_more, sum_of}
+use Rattle.aide_entry.specs.Count.{one_more, sum_of}
 use Rattle.aide_db.specs.Side.{by_side}
 use Rattle.aide_merge.specs.Openings.{IsRefusedIn, IsRefusedThere}
 

@@ -2,7 +2,7 @@
 use Rattle.std.proofs.Common.{◌≡◌, ◌∙◌, ℕ, ◌≤◌, ◌<◌, Bool, true, false, List, [], refl, sym, subst, arith, Option}
 use Rattle.std.specs.Io.KnownBytes.{Appends, Keeps}
 use Rattle.std.proofs.lemmas.List.{append-nil}
-use Rattle.aide_db.specs.Count.{sum_of}
+use Rattle.aide_entry.specs.Count.{sum_of}
 use Rattle.aide_text.specs.Failures.{Rose, one_more}
 use Rattle.aide_merge.specs.RunFaults.{IsCaused, CountsWriteFault, HasPenWritten, HasWrittenIfAny}
 use Rattle.aide_text.specs.Sent.{SendsPart, IsCounted}

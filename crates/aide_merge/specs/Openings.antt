@@ -1,6 +1,6 @@
 -- How often the sides were opened in a call.
 use Rattle.std.specs.Prelude.{◌≡◌, ◌≤◌, ℕ, ◌+◌, Bool, false, ⊤}
-use Rattle.aide_db.specs.Count.{one_more, sum_of}
+use Rattle.aide_entry.specs.Count.{one_more, sum_of}
 use Rattle.aide_entry.specs.Cause.{is_outside}
 use Rattle.aide_db.specs.Side.{by_side}
 use Rattle.aide_db.specs.declared.side.Side.{Side}

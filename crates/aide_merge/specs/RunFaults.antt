@@ -2,7 +2,7 @@
 use Rattle.std.specs.Prelude.{◌≡◌, ◌<◌, ◌≤◌, ◌+◌, ◌-◌, ◌^◌, ℕ, Option, Some, List, [], true, ⊤}
 use Rattle.std.specs.Prelude.{false, Result, Ok, Err}
 use Rattle.std.specs.Io.KnownBytes.{Appends}
-use Rattle.aide_db.specs.Count.{one_more}
+use Rattle.aide_entry.specs.Count.{one_more}
 use Rattle.aide_db.specs.Database.{IsSound}
 use Rattle.aide_entry.specs.Cause.{is_outside}
 use Rattle.aide_entry.specs.declared.fault_kind.DbFaultKind.TheVariants.{Read}

@@ -1,6 +1,6 @@
 -- What contracts see of the devices of a run at one moment, and what each call over the sources keeps.
 use Rattle.std.specs.Prelude.{ℕ, ◌≡◌, ◌≤◌, ◌^◌, Bool, Option, List}
-use Rattle.aide_db.specs.Count.{one_more}
+use Rattle.aide_entry.specs.Count.{one_more}
 use Rattle.aide_db.specs.Side.{other_side}
 use Rattle.aide_db.specs.declared.limits.Limits.{Limits}
 use Rattle.aide_db.specs.declared.side.Side.{Side}

@@ -1,24 +1,11 @@
-//! What the databases have at one path.
+//! What the databases have at the next path.
 ghost use Rattle.std.specs.Prelude.{◌≡◌};
-ghost use Rattle.aide_line_text.specs.SidesView.{found_in};
 ghost use Rattle.aide_merge.specs.code.ChangeView.{change_of};
 ghost use Rattle.aide_text.specs.DecodedRest.{decoded_rest};
 ghost use Rattle.percent_encoding.specs.Percent.{percent_decode};
 
-use aide_db::View;
-use aide_line_text::Sides;
+use aide_agreement::Change;
 use aide_text::DecodedFeed;
-
-/// What changed at one path: only one side has an entry there, or the lines of both sides differ.
-#[derive(Clone, Copy)]
-pub enum Change<'a> {
-    /// Only the new database has an entry there.
-    Added(View<'a>),
-    /// Only the old one has an entry there.
-    Removed(View<'a>),
-    /// Both have one, the old one first.
-    Common(View<'a>, View<'a>),
-}
 
 /// What both sides have at the path that comes next.
 #[derive(Clone, Copy)]
@@ -53,15 +40,4 @@ pub fn name_of<'a>(change: Change<'a>) -> &'a [u8]
         Change::Common(view, _) => view.name(),
     };
     name
-}
-
-/// What both sides have at a change, as the text of a line takes it.
-pub fn sides_of<'a>(change: Change<'a>) -> Sides<'a>
-    ensures { found_in result ≡ (change_of change.entry).1 }
-{
-    match change {
-        Change::Added(new) => Sides::Added(new),
-        Change::Removed(old) => Sides::Removed(old),
-        Change::Common(old, new) => Sides::Common(old, new),
-    }
 }

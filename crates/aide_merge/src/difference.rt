@@ -11,7 +11,7 @@ ghost use Rattle.aide_merge.specs.Changed.{differ_by};
 ghost use Rattle.aide_merge.specs.Changes.{is_changed};
 ghost use Rattle.aide_merge.specs.Said.{shows_at, shows_alone, letters_of, all_listed, is_in};
 
-use crate::change::Change;
+use aide_agreement::Change;
 use aide_attr::{Alone, AttrSet, Ignore, Level, reported, shown, summary, summary_one};
 use aide_conf::Options;
 use aide_db::{View, attrs_delta_of, delta_of};

@@ -11,7 +11,7 @@ mod pass;
 mod readings;
 mod run_fault;
 
-pub use change::{AtPath, Change, name_of, path_of, sides_of};
+pub use change::{AtPath, name_of, path_of};
 pub use difference::{letters, said_of};
 pub use digests::{Digests, changed_side, digest_of};
 pub use first_fault::settled;

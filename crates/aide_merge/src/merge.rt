@@ -22,7 +22,8 @@ ghost use Rattle.aide_merge.specs.code.Starts.{GivesBoth, GivesSide, IsStarted};
 ghost use Rattle.aide_merge.specs.Seen.{AreLimits};
 ghost use Rattle.aide_merge.specs.Standing.{IsUnfailed};
 
-use crate::change::{AtPath, Change};
+use crate::change::AtPath;
+use aide_agreement::Change;
 use aide_attr::Attr;
 use aide_db::{Cursor, DbFault, Desk, Limits, Reel, Side, Step, View, cmp_names};
 use std::alloc::Allocator;

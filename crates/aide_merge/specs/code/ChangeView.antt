@@ -1,18 +1,23 @@
 -- How the code represents a change.
-use Rattle.std.specs.Prelude.{◌≡◌, ℕ, Some, None, List, [], ◌∷◌}
+use Rattle.std.specs.Prelude.{◌≡◌, ℕ, Some, List, [], ◌∷◌}
+use Rattle.aide_agreement.specs.ChangeView.{found_in}
+use Rattle.aide_agreement.specs.declared.change.Change.{Change}
+use Rattle.aide_agreement.specs.declared.change.Change.TheVariants.{Added, Removed, Common}
 use Rattle.aide_entry.specs.Attributes.{Attributes, Entry}
 use Rattle.aide_entry.specs.View.{entry_in}
 use Rattle.aide_merge.specs.Compare.{Change as Sided}
 use Rattle.aide_merge.specs.declared.change.AtPath.{AtPath}
 use Rattle.aide_merge.specs.declared.change.AtPath.TheVariants.{Alike, Differs, End}
-use Rattle.aide_merge.specs.declared.change.Change.{Change}
-use Rattle.aide_merge.specs.declared.change.Change.TheVariants.{Added, Removed, Common}
+
+-- the path
+abbrev pub path_in : Change → List ℕ
+path_in (Added new) = (entry_in new).0
+path_in (Removed old) = (entry_in old).0
+path_in (Common old new) = (entry_in old).0
 
 -- the path, and the entry of each side there
 abbrev pub change_of : Change → Sided (List ℕ) Attributes
-change_of (Added new) = ((entry_in new).0, (None, Some (entry_in new).1))
-change_of (Removed old) = ((entry_in old).0, (Some (entry_in old).1, None))
-change_of (Common old new) = ((entry_in old).0, (Some (entry_in old).1, Some (entry_in new).1))
+change_of change = (path_in change, found_in change)
 
 -- one entry on both sides
 abbrev pub alike_of : Entry → Sided (List ℕ) Attributes

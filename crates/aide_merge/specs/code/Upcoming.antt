@@ -8,7 +8,7 @@ use Rattle.aide_merge.specs.code.ChangeView.{change_of}
 use Rattle.aide_merge.specs.code.Merging.{IsReady, IsWithinLimits, remaining, total_work}
 use Rattle.aide_merge.specs.code.NextEntry.{next_entry}
 use Rattle.aide_merge.specs.code.NextPath.{next_change}
-use Rattle.aide_merge.specs.declared.change.Change.{Change}
+use Rattle.aide_agreement.specs.declared.change.Change.{Change}
 use Rattle.aide_merge.specs.declared.merge.Merge.{Merge}
 
 -- the change at the next path of a merge that has read the entries that were due, or none at the end
