@@ -2,13 +2,13 @@
 use Rattle.std.proofs.Common.{◌≡◌, ◌∙◌, ℕ, Bool, List, [], ◌∷◌, ◌++◌, sym, ap, arith, append_assoc, codes}
 use Rattle.std.specs.Prelude.{Option}
 use Rattle.aide_agreement.specs.Account.{Pair}
+use Rattle.aide_agreement.specs.Kind.{kind_word, type_at}
 use Rattle.aide_attr.specs.declared.attr.Attr.{Attr}
 use Rattle.aide_json.proofs.ItemLemmas.{behind_append}
 use Rattle.aide_json.specs.Json.{quoted}
 use Rattle.aide_json.specs.Member.{member, text_member}
 use Rattle.aide_json.specs.Object.{behind, line, object}
-use Rattle.aide_line_text.specs.Entry.{account_members, entry_line, entry_members, kind_word, type_at}
-use Rattle.aide_line_text.specs.Entry.{type_members}
+use Rattle.aide_line_text.specs.Entry.{account_members, entry_line, entry_members, type_members}
 use Rattle.aide_line_text.specs.code.Parts.{entry_head, entry_parts}
 use Rattle.aide_line_text.specs.declared.account.Account.{Account}
 

@@ -4,5 +4,5 @@ pub mod Entry
 pub mod Ends
 pub mod Frame
 pub mod ReadView
-pub mod SidesView
+pub mod Settings
 pub mod code

@@ -13,7 +13,7 @@ ghost use Rattle.aide_text.specs.Sheet.{Wrote};
 ghost use Rattle.aide_text.specs.ValueText.{mode_text, option_text};
 
 use aide_attr::{Attr, FileType, Form};
-use aide_db::View;
+use aide_entry::View;
 use aide_json::{
     put_digest_member, put_integer_member, put_literal_member, put_text_member, put_word_member,
 };

@@ -1,48 +1,23 @@
 //! Writes the line of a path.
 ghost use Rattle.std.specs.Prelude.{◌≡◌, ◌∷◌, ◌++◌, [], Some, codes};
+ghost use Rattle.aide_agreement.specs.ChangeView.{found_in};
 ghost use Rattle.aide_attr.specs.Set.{has};
 ghost use Rattle.aide_entry.specs.View.{entry_in};
 ghost use Rattle.aide_json.specs.Object.{behind};
 ghost use Rattle.aide_line_text.specs.Entry.{account_member, account_members, entry_line};
-ghost use Rattle.aide_line_text.specs.Entry.{entry_members, kind_word, type_at, type_members};
+ghost use Rattle.aide_line_text.specs.Entry.{entry_members, type_members};
 ghost use Rattle.aide_line_text.specs.code.Parts.{entries_behind, entry_head};
-ghost use Rattle.aide_line_text.specs.SidesView.{found_in};
 ghost use Rattle.aide_text.specs.PenSheet.{on_sheet};
 ghost use Rattle.aide_text.specs.Sheet.{Wrote};
 
 use crate::account::Account;
 use crate::attribute::put_type;
 use crate::side::put_entry;
-use crate::sides::Sides;
+use aide_agreement::{Change, kind_word, type_at};
 use aide_attr::{AttrSet, FileType};
-use aide_db::View;
+use aide_entry::View;
 use aide_json::{put_count_member, put_name, put_text_member, put_word_member};
 use aide_text::{Feed, Pen, Sink, put};
-
-/// Returns the word for what became of the path.
-pub fn kind_word(sides: Sides<'_>) -> &'static [u8]
-    ensures { result.now ≡ kind_word (found_in sides.entry) }
-{
-    match sides {
-        Sides::Added(_) => b"added",
-        Sides::Removed(_) => b"removed",
-        Sides::Common(_, _) => b"changed",
-    }
-}
-
-/// Returns the type at the path: the new entry's if it has one, otherwise the old entry's.
-pub fn type_at(sides: Sides<'_>) -> Option<FileType>
-    ensures { result ≡ type_at (found_in sides.entry) }
-{
-    match sides {
-        Sides::Added(new) => new.kind(),
-        Sides::Removed(old) => old.kind(),
-        Sides::Common(old, new) => match new.kind() {
-            None => old.kind(),
-            Some(kind) => Some(kind),
-        },
-    }
-}
 
 /// Writes the beginning of a line: what became of the path, the path, and the summary string.
 fn put_head<W: Sink, B: Feed + Copy>(
@@ -110,14 +85,14 @@ fn put_entry_behind<W: Sink>(
     put_entry(out, pen, view, shown);
 }
 
-fn put_sides<W: Sink>(out: &mut W, pen: &mut Pen, sides: Sides<'_>, shown: AttrSet)
-    ensures { Wrote (entries_behind (has shown) (found_in sides.entry))
+fn put_entries<W: Sink>(out: &mut W, pen: &mut Pen, change: Change<'_>, shown: AttrSet)
+    ensures { Wrote (entries_behind (has shown) (found_in change.entry))
         (on_sheet W.Sink out.old pen.old) (on_sheet W.Sink out.new pen.new) }
 {
-    match sides {
-        Sides::Added(new) => put_entry_behind(out, pen, b"new", &new, shown),
-        Sides::Removed(old) => put_entry_behind(out, pen, b"old", &old, shown),
-        Sides::Common(old, new) => {
+    match change {
+        Change::Added(new) => put_entry_behind(out, pen, b"new", &new, shown),
+        Change::Removed(old) => put_entry_behind(out, pen, b"old", &old, shown),
+        Change::Common(old, new) => {
             put_entry_behind(out, pen, b"old", &old, shown);
             put_entry_behind(out, pen, b"new", &new, shown);
         }
@@ -141,15 +116,15 @@ pub fn put_entry_line<W: Sink, B: Feed + Copy>(
     pen: &mut Pen,
     path: B,
     remark: Remark<'_>,
-    sides: Sides<'_>,
+    change: Change<'_>,
 )
     ensures { Wrote (entry_line (B.rest path) remark.entry.letters.now remark.entry.account
-        (has remark.entry.shown) (found_in sides.entry))
+        (has remark.entry.shown) (found_in change.entry))
         (on_sheet W.Sink out.old pen.old) (on_sheet W.Sink out.new pen.new) }
 {
-    put_head(out, pen, kind_word(sides), path, remark.letters);
+    put_head(out, pen, kind_word(change), path, remark.letters);
     put_account_behind(out, pen, remark.account);
-    put_type_behind(out, pen, type_at(sides));
-    put_sides(out, pen, sides, remark.shown);
+    put_type_behind(out, pen, type_at(change));
+    put_entries(out, pen, change, remark.shown);
     put(out, pen, b"}\n");
 }

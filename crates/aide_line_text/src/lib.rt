@@ -1,4 +1,4 @@
-//! The lines of JSON about two databases: the first line, the line of an entry, and the last line.
+//! The lines of JSON about two databases and about a configuration.
 #![tactic(auto)]
 
 mod account;
@@ -7,12 +7,14 @@ mod counts;
 mod ends;
 mod entry;
 mod frame;
+mod members;
+mod names;
+mod settings;
 mod side;
-mod sides;
 mod skipped;
 
 pub use account::{Account, account_as};
 pub use counts::LineCounts;
-pub use entry::{Remark, kind_word, put_entry_line, type_at};
+pub use entry::{Remark, put_entry_line};
 pub use frame::{Read, ReadFour, ReadPair, put_closing_line, put_opening_line};
-pub use sides::Sides;
+pub use settings::put_settings_line;

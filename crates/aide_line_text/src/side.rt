@@ -9,7 +9,7 @@ ghost use Rattle.aide_text.specs.Sheet.{Wrote};
 
 use crate::attribute::put_attribute;
 use aide_attr::{Attr, AttrSet};
-use aide_db::View;
+use aide_entry::View;
 use aide_json::put_comma;
 use aide_text::{Pen, Sink, put};
 

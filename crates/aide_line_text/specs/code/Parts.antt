@@ -1,12 +1,12 @@
 -- The lines in the parts in which they are written.
 use Rattle.std.specs.Prelude.{ℕ, Bool, List, [], ◌∷◌, ◌++◌, Option, codes}
 use Rattle.aide_agreement.specs.Account.{Pair}
+use Rattle.aide_agreement.specs.Kind.{kind_word, type_at}
 use Rattle.aide_attr.specs.declared.attr.Attr.{Attr}
 use Rattle.aide_json.specs.Json.{quoted}
 use Rattle.aide_json.specs.Member.{member, text_member}
 use Rattle.aide_json.specs.Object.{behind}
-use Rattle.aide_line_text.specs.Entry.{account_members, entry_members}
-use Rattle.aide_line_text.specs.Entry.{kind_word, type_at, type_members}
+use Rattle.aide_line_text.specs.Entry.{account_members, entry_members, type_members}
 use Rattle.aide_line_text.specs.declared.account.Account.{Account}
 
 -- the beginning of the line of a path, as far as the summary string

@@ -1,6 +1,6 @@
 use Rattle.aide_json.specs.Member.{member}
 use Rattle.aide_text.proofs.Sheets.{wrote_more}
-use Rattle.aide_settings_text.proofs.members.put_attrs.Goals as goal
+use Rattle.aide_line_text.proofs.members.put_attrs.Goals as goal
 
 pub returns : goal.returns
 unfolding member

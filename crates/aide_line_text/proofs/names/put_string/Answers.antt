@@ -1,6 +1,6 @@
 use Rattle.aide_json.specs.Json.{quoted}
 use Rattle.aide_text.proofs.Sheets.{wrote_more}
-use Rattle.aide_settings_text.proofs.names.put_string.Goals as goal
+use Rattle.aide_line_text.proofs.names.put_string.Goals as goal
 
 pub returns : goal.returns
 unfolding quoted

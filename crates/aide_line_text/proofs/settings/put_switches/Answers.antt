@@ -1,9 +1,9 @@
 use Rattle.std.proofs.Common.{sym, codes}
 use Rattle.std.proofs.lemmas.List.{append-nil}
 use Rattle.aide_json.specs.Member.{member}
-use Rattle.aide_settings_text.specs.Settings.{truth}
+use Rattle.aide_line_text.specs.Settings.{truth}
 use Rattle.aide_text.proofs.Sheets.{wrote_more, wrote_as}
-use Rattle.aide_settings_text.proofs.settings.put_switches.Goals as goal
+use Rattle.aide_line_text.proofs.settings.put_switches.Goals as goal
 
 pub returns : goal.returns
 returns g c =

@@ -3,9 +3,9 @@ use Rattle.aide_attr.specs.Attr.{all_attrs}
 use Rattle.aide_attr.specs.Set.{has}
 use Rattle.aide_json.proofs.ItemLemmas.{items_as}
 use Rattle.aide_json.specs.Object.{array}
-use Rattle.aide_settings_text.specs.Settings.{attr_string, attrs_array}
+use Rattle.aide_line_text.specs.Settings.{attr_string, attrs_array}
 use Rattle.aide_text.proofs.Sheets.{wrote_more, wrote_as}
-use Rattle.aide_settings_text.proofs.names.put_set.Goals as goal
+use Rattle.aide_line_text.proofs.names.put_set.Goals as goal
 
 pub returns : goal.returns
 unfolding attrs_array array

@@ -5,13 +5,13 @@ use Rattle.aide_attr.specs.declared.attr.Attr.TheVariants.{Ftype}
 use Rattle.aide_json.proofs.ItemLemmas.{items_more, items_end, item_wanted, item_unwanted}
 use Rattle.aide_json.specs.Json.{quoted}
 use Rattle.aide_json.specs.code.Items.{next_item}
-use Rattle.aide_settings_text.proofs.SettingsLemmas.{behind_wanted, behind_unwanted}
-use Rattle.aide_settings_text.specs.Settings.{attr_string}
+use Rattle.aide_line_text.proofs.SettingsLemmas.{behind_wanted, behind_unwanted}
+use Rattle.aide_line_text.specs.Settings.{attr_string}
 use Rattle.aide_text.specs.PenSheet.{on_sheet}
 use Rattle.aide_text.specs.Sheet.{Wrote}
 use Rattle.aide_text.proofs.Sheets.{writing_more, writing_done, wrote_more, wrote_as, wrote_nothing}
-use Rattle.aide_settings_text.proofs.names.put_names.Goals.{then-has, else-has}
-use Rattle.aide_settings_text.proofs.names.put_names.Goals as goal
+use Rattle.aide_line_text.proofs.names.put_names.Goals.{then-has, else-has}
+use Rattle.aide_line_text.proofs.names.put_names.Goals as goal
 
 pub loop-attr-preserved : goal.loop-attr-preserved
 loop-attr-preserved g c =

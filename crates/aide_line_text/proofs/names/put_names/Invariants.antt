@@ -1,10 +1,10 @@
 use Rattle.std.proofs.Common.{drop, true}
 use Rattle.aide_attr.specs.Set.{has}
 use Rattle.aide_json.specs.code.Items.{items_from}
-use Rattle.aide_settings_text.specs.Settings.{attr_string}
+use Rattle.aide_line_text.specs.Settings.{attr_string}
 use Rattle.aide_text.specs.PenSheet.{on_sheet}
 use Rattle.aide_text.specs.Sheet.{Writing}
-use Rattle.aide_settings_text.proofs.names.put_names.Given as goal
+use Rattle.aide_line_text.proofs.names.put_names.Given as goal
 
 abbrev pub invariant-loop-attr : goal.invariant-loop-attr
 invariant-loop-attr g l =

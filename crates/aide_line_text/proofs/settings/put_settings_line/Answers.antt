@@ -4,10 +4,10 @@ use Rattle.aide_attr.specs.Level.{level_name}
 use Rattle.aide_json.specs.Json.{quoted}
 use Rattle.aide_json.specs.Member.{member}
 use Rattle.aide_json.specs.Number.{json_count}
-use Rattle.aide_settings_text.proofs.SettingsLemmas.{settings_parts}
-use Rattle.aide_settings_text.specs.Settings.{attrs_array, path_member, settings_line, truth}
+use Rattle.aide_line_text.proofs.SettingsLemmas.{settings_parts}
+use Rattle.aide_line_text.specs.Settings.{attrs_array, path_member, settings_line, truth}
 use Rattle.aide_text.proofs.Sheets.{wrote_more, wrote_as}
-use Rattle.aide_settings_text.proofs.settings.put_settings_line.Goals as goal
+use Rattle.aide_line_text.proofs.settings.put_settings_line.Goals as goal
 
 pub returns : goal.returns
 unfolding settings_line

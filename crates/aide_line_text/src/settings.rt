@@ -1,7 +1,7 @@
 //! Writes what an accepted configuration says.
 ghost use Rattle.std.specs.Prelude.{◌≡◌, option_map};
 ghost use Rattle.aide_json.specs.Object.{joined};
-ghost use Rattle.aide_settings_text.specs.Settings.{set_members, settings_line, switch_members};
+ghost use Rattle.aide_line_text.specs.Settings.{set_members, settings_line, switch_members};
 ghost use Rattle.aide_text.specs.PenSheet.{on_sheet};
 ghost use Rattle.aide_text.specs.Sheet.{Wrote};
 

@@ -3,7 +3,7 @@ ghost use Rattle.std.specs.Prelude.{◌≡◌, true};
 ghost use Rattle.aide_attr.specs.Set.{has};
 ghost use Rattle.aide_json.specs.Json.{quoted};
 ghost use Rattle.aide_json.specs.code.Items.{items_from};
-ghost use Rattle.aide_settings_text.specs.Settings.{attr_string, attrs_array};
+ghost use Rattle.aide_line_text.specs.Settings.{attr_string, attrs_array};
 ghost use Rattle.aide_text.specs.PenSheet.{on_sheet};
 ghost use Rattle.aide_text.specs.Sheet.{Wrote};
 

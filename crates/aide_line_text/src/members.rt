@@ -1,7 +1,7 @@
 //! Writes the members that stand for a path, for a truth value and for a set of attributes.
 ghost use Rattle.std.specs.Prelude.{◌≡◌, option_map};
 ghost use Rattle.aide_json.specs.Member.{member};
-ghost use Rattle.aide_settings_text.specs.Settings.{attrs_array, path_member, truth};
+ghost use Rattle.aide_line_text.specs.Settings.{attrs_array, path_member, truth};
 ghost use Rattle.aide_text.specs.PenSheet.{on_sheet};
 ghost use Rattle.aide_text.specs.Sheet.{Wrote};
 
