@@ -20,9 +20,9 @@ use Rattle.aide_merge.specs.Changed.{differ_by}
 use Rattle.aide_merge.specs.Said.{all_listed, is_in}
 use Rattle.aide_line_run.specs.Lines.{by_trusted}
 use Rattle.aide_line_run.specs.Listed.{Leaves, account_by}
-use Rattle.aide_line_run.specs.EmptyDatabase.{empty_database}
+use Rattle.aide_db.specs.EmptyDatabase.{empty_database}
 use Rattle.aide_line_laws.proofs.ListLaws.{by_pairs}
-use Rattle.aide_line_run.proofs.NoEntries.{no_entries_are_none}
+use Rattle.aide_db.proofs.NoEntries.{no_entries_are_none}
 
 -- options ignore no attribute
 pub record IgnoresNothing (ignore : Ignore) : Type 0 where

@@ -19,7 +19,8 @@ use Rattle.aide_json.specs.Json.{hex_string, quoted}
 use Rattle.aide_json.specs.Number.{json_integer}
 use Rattle.aide_line_text.specs.Attribute.{type_string, value_member, attribute_member, entry_object}
 use Rattle.aide_line_text.specs.Entry
-use Rattle.aide_line_text.specs.Entry.{kind_word, type_at, type_members, entry_members, entry_line}
+use Rattle.aide_agreement.specs.Kind.{kind_word, type_at}
+use Rattle.aide_line_text.specs.Entry.{type_members, entry_members, entry_line}
 use Rattle.aide_line_text.specs.declared.account.Account.{Account}
 use Rattle.aide_line_text.specs.declared.account.Account.TheVariants.{LeftOut, Old, Trusted}
 use Rattle.aide_text.specs.ValueText.{type_text, octal_text}

@@ -5,19 +5,24 @@ use Rattle.std.specs.Prelude.{◌+◌, ◌*◌, ◌/◌, ◌%◌, pos, if◌then
 use Rattle.std.specs.declared.cmp.Ordering.TheVariants.{Less}
 use Rattle.json.specs.Json.{string}
 use Rattle.percent_encoding.specs.Percent.{percent_decode}
-use Rattle.aide_agreement.specs.Account.{Pair, same_as}
-use Rattle.aide_agreement.specs.Agreement.{agree}
-use Rattle.aide_agreement.specs.Meaning.{Agrees, HasTarget, SharesDigest}
-use Rattle.aide_agreement.specs.Own.{is_device, is_digest, is_own, is_strong}
+use Rattle.aide_agreement.specs.Account.{Pair, is_as_trusted, same_as}
+use Rattle.aide_agreement.specs.Agreement.{agree, have_targets}
+use Rattle.aide_agreement.specs.Happened.{DiffersAt, HappenedThere, KeepsRights, OtherContent, SameContent}
+use Rattle.aide_agreement.specs.Meaning.{Agrees, HasTarget, SaysRights, SharesDigest}
+use Rattle.aide_agreement.specs.Own.{is_content, is_device, is_digest, is_own, is_right, is_strong}
+use Rattle.aide_agreement.specs.Trusted.{changed_too, has_other_content, keeps_rights}
+use Rattle.aide_agreement.proofs.HappenedLemmas.{changed_means, happened_from, happened_means, kept_from, other_from, other_means}
+use Rattle.aide_agreement.proofs.HappenedLemmas.{same_means}
 use Rattle.aide_agreement.proofs.Laws.{agree_from_meaning, meaning_of_agree}
 use Rattle.aide_attr.specs.Attr.{all_attrs, attr_of_column, count, holder_of, row, row_of}
 use Rattle.aide_attr.specs.Difference.{is_added, is_changed, is_removed, is_reported}
 use Rattle.aide_attr.specs.Set.{has, is_attr}
 use Rattle.aide_attr.specs.declared.attr.Attr.{Attr}
-use Rattle.aide_attr.specs.declared.attr.Attr.TheVariants.{Atime, Bcount, Caps, Ctime, Ftype, Inode, Linkcount, Lname, Md5, Mtime}
-use Rattle.aide_attr.specs.declared.attr.Attr.TheVariants.{Perm, Sha256, Sha3Of256}
+use Rattle.aide_attr.specs.declared.attr.Attr.TheVariants.{Acl, Atime, Bcount, Caps, Ctime, E2fsattrs, Ftype, Gid, Inode}
+use Rattle.aide_attr.specs.declared.attr.Attr.TheVariants.{Linkcount, Lname, Md5, Mtime, Perm, Selinux, Sha256, Sha3Of256, Uid, Xattrs}
 use Rattle.aide_attr.specs.declared.attr.Attr.TheVariants.{Sha3Of512, Sha512, Sha512Of256, Size, Stribog256, Stribog512, Whirlpool}
 use Rattle.aide_attr.specs.declared.delta.Ignore.{Ignore}
+use Rattle.aide_attr.specs.declared.file_type.FileType.{FileType}
 use Rattle.aide_attr.specs.declared.file_type.FileType.TheVariants.{Block, Directory, Fifo, File, Link as SymbolicLink}
 use Rattle.aide_attr.specs.declared.form.Form.TheVariants.{Kind, Link, Mode, Opaque}
 use Rattle.aide_attr.specs.declared.set.AttrSet.{AttrSet}
@@ -36,7 +41,8 @@ use Rattle.aide_entry.specs.declared.line.LineKind.TheVariants.{Blank, End}
 use Rattle.aide_line_text.specs.declared.account.Account.TheVariants.{LeftOut, Old, Trusted}
 use Rattle.aide_merge.specs.Changed.{differ_by}
 use Rattle.aide_line_run.specs.Listed.{account_by}
-use Rattle.aide_line_laws.specs.OverMaps.{HappenedThere, IsAbout, IsAccount, StayedAsOld, differ_beyond}
+use Rattle.aide_line_laws.specs.OverMaps.{IsAbout, IsAccount, IsFirstLine, StayedAsOld, differ_beyond}
+use Rattle.aide_line_laws.specs.Field.{count_json}
 use Rattle.aide_line_laws.specs.Reading.{SaysAccount}
 use Rattle.aide_line_laws.proofs.MapLaws.{account_by_is_account}
 
@@ -51,21 +57,29 @@ abbrev pub entry : List (Attr × Value) → Attributes
 entry [] a = None
 entry (one ∷ more) a = if is_attr one.0 a then Some one.1 else entry more a
 
--- a regular file: its permissions in octal, the time of its last change, and a digest of its content
+-- what belongs to root, of this type, with its permissions in octal, and has these values too
+abbrev pub of_root : FileType → (mode : ℕ) → List (Attr × Value) → Attributes
+of_root kind mode more =
+    entry ((Ftype, type_value kind) ∷ (Perm, mode_value (octal mode)) ∷ (Uid, number_value (pos 0))
+    ∷ (Gid, number_value (pos 0)) ∷ more)
+
+-- a regular file: its permissions, the time of its last change, and a digest of its content
 abbrev pub file : (mode time : ℕ) → (digest : Attr) → (content : ℕ) → Attributes
 file mode time digest content =
-    entry ((Ftype, type_value File) ∷ (Perm, mode_value (octal mode)) ∷ (Mtime, number_value (pos time))
-    ∷ (digest, digest_value (content ∷ [])) ∷ [])
+    of_root File mode ((Mtime, number_value (pos time)) ∷ (digest, digest_value (content ∷ [])) ∷ [])
 
--- a directory: its permissions in octal, its size and its number of links
+-- a directory: its permissions, its size and its number of links
 abbrev pub directory : (mode size links : ℕ) → Attributes
 directory mode size links =
-    entry ((Ftype, type_value Directory) ∷ (Perm, mode_value (octal mode)) ∷ (Size, number_value (pos size))
-    ∷ (Linkcount, number_value (pos links)) ∷ [])
+    of_root Directory mode ((Size, number_value (pos size)) ∷ (Linkcount, number_value (pos links)) ∷ [])
 
 -- a link to a target, if the database has one
 abbrev pub link : Option (List ℕ) → Attributes
-link target = entry ((Ftype, type_value SymbolicLink) ∷ (Lname, link_value target) ∷ [])
+link target = of_root SymbolicLink 777 ((Lname, link_value target) ∷ [])
+
+-- an entry without one of its attributes
+abbrev pub without : Attr → Attributes → Attributes
+without missing one a = if is_attr a missing then None else one a
 
 -- a database with two entries; what follows its end line is no entry
 abbrev pub two_entries : List ℕ
@@ -100,6 +114,10 @@ pub Agrees_example_user_id : ¬ (Agrees (file 755 1 Sha256 7) (file 4755 1 Sha25
 unfolding agree row_of row
 Agrees_example_user_id = differs (file 755 1 Sha256 7) (file 4755 1 Sha256 7) refl
 
+pub Agrees_example_owner : ¬ (Agrees (without Uid (file 755 1 Sha256 7)) (without Uid (file 755 2 Sha256 7)))
+unfolding agree row_of row
+Agrees_example_owner = differs (without Uid (file 755 1 Sha256 7)) (without Uid (file 755 2 Sha256 7)) refl
+
 pub Agrees_example_directory : Agrees (directory 755 60 2) (directory 755 80 2) × ¬ (Agrees (directory 755 60 2) (directory 755 60 3))
 unfolding agree row_of row
 Agrees_example_directory =
@@ -124,6 +142,10 @@ pub HasTarget_example : HasTarget (link (Some (codes "dash"))) × ¬ (HasTarget 
 unfolding row_of row
 HasTarget_example = (record { target = codes "dash"; is = refl }, λ h. let e = h.is in cc)
 
+pub SaysRights_example : SaysRights (file 644 1 Sha256 7) × ¬ (SaysRights (without Perm (file 644 1 Sha256 7)))
+unfolding row_of row
+SaysRights_example = (record { mode = refl; owner = refl; group = refl }, λ h. let e = h.mode in cc)
+
 pub is_device_example : (is_device Block ≡ true) × (is_device Fifo ≡ false)
 is_device_example = (refl, refl)
 
@@ -138,6 +160,15 @@ is_own_example_directory = refl
 pub is_digest_example : (is_digest Md5 ≡ true) × (is_digest Size ≡ false)
 unfolding row_of row
 is_digest_example = (refl, refl)
+
+pub is_right_example : filter is_right all_attrs
+    ≡ Ftype ∷ Perm ∷ Uid ∷ Gid ∷ Acl ∷ Xattrs ∷ Selinux ∷ E2fsattrs ∷ Caps ∷ []
+unfolding row_of row
+is_right_example = refl
+
+pub is_content_example : (is_content false Size ≡ true) × (is_content true Size ≡ false) × (is_content false Md5 ≡ true)
+unfolding row_of row
+is_content_example = (refl, refl, refl)
 
 pub is_strong_example : filter is_strong all_attrs
     ≡ Sha256 ∷ Sha512 ∷ Whirlpool ∷ Stribog256 ∷ Stribog512 ∷ Sha512Of256 ∷ Sha3Of256 ∷ Sha3Of512 ∷ []
@@ -243,13 +274,61 @@ StayedAsOld_example =
 
 pub HappenedThere_example : HappenedThere (None, Some (file 755 1 Sha256 7)) (None, Some (file 755 2 Sha256 7))
 unfolding agree row_of row
-HappenedThere_example =
-    (meaning_of_agree (file 755 1 Sha256 7) (file 755 2 Sha256 7) refl, λ stood. let e = ap (λ pair. pair.0) stood.both in cc)
+HappenedThere_example = meaning_of_agree (file 755 1 Sha256 7) (file 755 2 Sha256 7) refl
 
 pub HappenedThere_example_still :
     ¬ (HappenedThere (None, Some (file 755 1 Sha256 7)) (Some (file 755 2 Sha256 7), Some (file 755 2 Sha256 7)))
-unfolding agree row_of row
-HappenedThere_example_still h = h.1 (stayed (file 755 2 Sha256 7) (file 755 2 Sha256 7) refl)
+HappenedThere_example_still h = h
+
+-- A host was one version behind: its content was another one than there before.
+pub HappenedThere_example_late :
+    HappenedThere (Some (file 755 1 Sha256 3), Some (file 755 2 Sha256 7)) (Some (file 755 1 Sha256 5), Some (file 755 2 Sha256 7))
+unfolding agree changed_too row_of row
+HappenedThere_example_late =
+    happened_means (Some (file 755 1 Sha256 3), Some (file 755 2 Sha256 7))
+    (Some (file 755 1 Sha256 5), Some (file 755 2 Sha256 7)) refl
+
+-- The bit that runs it as its user comes here, and stood there, where the content changed.
+pub HappenedThere_example_user_id :
+    ¬ (HappenedThere (Some (file 755 1 Sha256 5), Some (file 4755 2 Sha256 7))
+    (Some (file 4755 1 Sha256 5), Some (file 4755 2 Sha256 7)))
+unfolding agree changed_too row_of row
+HappenedThere_example_user_id =
+    apart (is_as_trusted (Some (file 755 1 Sha256 5), Some (file 4755 2 Sha256 7))
+    (Some (file 4755 1 Sha256 5), Some (file 4755 2 Sha256 7)))
+    (happened_from (Some (file 755 1 Sha256 5), Some (file 4755 2 Sha256 7))
+    (Some (file 4755 1 Sha256 5), Some (file 4755 2 Sha256 7))) refl
+
+pub KeepsRights_example : ¬ (KeepsRights (file 755 1 Sha256 7) (file 4755 1 Sha256 7))
+unfolding row_of row
+KeepsRights_example =
+    apart (keeps_rights (file 755 1 Sha256 7) (file 4755 1 Sha256 7)) (kept_from (file 755 1 Sha256 7) (file 4755 1 Sha256 7)) refl
+
+pub SameContent_example : SameContent File (file 644 1 Sha256 7) (file 600 2 Sha256 7)
+    × ¬ (SameContent File (file 644 1 Md5 7) (file 644 1 Md5 7))
+unfolding row_of row
+SameContent_example = (
+  same_means File (file 644 1 Sha256 7) (file 600 2 Sha256 7) refl,
+  λ h. SharesDigest_example.1 (h.shared refl),
+)
+
+pub OtherContent_example : OtherContent File (file 644 1 Sha256 5) (file 644 1 Sha256 7)
+    × ¬ (OtherContent File (file 644 1 Md5 5) (file 644 1 Sha256 7))
+unfolding row_of row
+OtherContent_example = (
+  other_means File (file 644 1 Sha256 5) (file 644 1 Sha256 7) refl,
+  apart (has_other_content File (sides_between (file 644 1 Md5 5) (file 644 1 Sha256 7))
+      (have_targets (file 644 1 Md5 5) (file 644 1 Sha256 7)))
+      (other_from File (file 644 1 Md5 5) (file 644 1 Sha256 7)) refl,
+)
+
+pub DiffersAt_example : DiffersAt Perm (file 644 1 Sha256 7) (file 600 1 Sha256 7)
+    × ¬ (DiffersAt Md5 (file 644 1 Md5 7) (file 644 1 Sha256 7))
+unfolding row_of row
+DiffersAt_example = (
+  changed_means (file 644 1 Sha256 7) (file 600 1 Sha256 7) Perm refl,
+  λ h. let e = h.in_second in cc,
+)
 
 -- Line 3 of a list leaves out each of these changes.
 pub IsAccount_example_old : IsAccount (Some (file 644 1 Sha256 7), Some (file 644 2 Sha256 7)) (None, None) (λ line. line ≡ 3) (Some Old)
@@ -277,6 +356,9 @@ pub differ_beyond_example_added : differ_beyond but_for_times (None, Some (file 
 differ_beyond_example_added = refl
 
 -- ---- lines
+
+pub IsFirstLine_example : IsFirstLine ((codes "format", count_json 4) ∷ [])
+IsFirstLine_example = refl
 
 pub IsAbout_example : IsAbout (codes "/a") ((codes "path", string (codes "/a")) ∷ [])
 IsAbout_example = refl

@@ -2,7 +2,7 @@
 -- all four, and without their last line they are never complete.
 use Rattle.std.proofs.Common.{◌≡◌, ◌∙◌, ◌∷◌, ◌++◌, Err, List, Ok, Some, [], ap, append_assoc, false, refl, rules, true, ℕ}
 use Rattle.std.proofs.Common.{if◌then◌else◌, Option}
-use Rattle.std.specs.Prelude.{codes, ⊤}
+use Rattle.std.specs.Prelude.{codes}
 use Rattle.std.specs.List.{AllByRecursion}
 use Rattle.sha2.specs.Sha256.{sha256}
 use Rattle.aide_conf.specs.declared.options.Options.{Options}
@@ -24,7 +24,7 @@ use Rattle.aide_merge.specs.declared.outcome.Outcome.{Outcome}
 use Rattle.aide_merge.specs.declared.run_fault.RunFault.TheVariants.{Open, Database, Changed, Write}
 use Rattle.aide_line_run.specs.Lines.{BeginsLines, lines_framed, by_texts, last_line, facts_of_texts, lines_of_texts}
 use Rattle.aide_line_run.specs.Lines.{first_line}
-use Rattle.aide_line_run.specs.RunEnds.{AreAllSound, CutsLines, changes_between}
+use Rattle.aide_line_run.specs.RunEnds.{CutsLines, changes_between}
 use Rattle.aide_line_run.specs.Listed.{ListRead, leaves_between}
 use Rattle.aide_line_run.specs.PairSeen.{Gives, PairSeen}
 use Rattle.aide_line_run.specs.LinesRun.{IsLinesRun}
@@ -32,7 +32,7 @@ use Rattle.aide_line_run.specs.Sought.{Accounted, accounted_lines, changes_of}
 use Rattle.aide_line_run.specs.declared.pair_fault.PairFault.{PairFault}
 use Rattle.aide_line_run.specs.declared.pair_fault.PairFault.TheVariants.{Compared, Trusted}
 use Rattle.aide_line_laws.specs.ByteValues.{AreBytes}
-use Rattle.aide_line_laws.specs.Complete.{AreComplete, EndsWithDigests, digest_under}
+use Rattle.aide_line_laws.specs.Complete.{AreComplete, EndsWithDigests, LeavesUnfinished, digest_under}
 use Rattle.aide_line_laws.specs.Field.{Field, text_field}
 use Rattle.aide_line_laws.specs.Fields.{closing_fields_trusted, opening_fields_trusted}
 use Rattle.aide_line_laws.specs.JsonLine.{AreJsonLines}
@@ -205,12 +205,6 @@ cut_lines_are_never_complete limits list wish trusted old new trusted_old truste
     )
 
 -- ---- runs
-
--- Any fault but a failed write of the lines of four sound texts.
-abbrev pub LeavesUnfinished : Limits → (old new trusted_old trusted_new : List ℕ) → PairFault → Type 0
-LeavesUnfinished limits old new trusted_old trusted_new (Compared (Write written)) =
-    AreAllSound limits old new trusted_old trusted_new → ⊥
-LeavesUnfinished limits old new trusted_old trusted_new _ = ⊤
 
 begun_at : (limits : Limits) (list : ListRead) (wish trusted : Asked) (old new trusted_old trusted_new : List ℕ)
     (before after : Option (List ℕ)) (fault : PairFault)

@@ -19,9 +19,9 @@ pub mod CompleteLaws
 pub mod JsonLaws
 pub mod AccountLaws
 pub mod ListLaws
+mod FrameLaws
 pub mod MapLaws
 mod FrontExamples
 pub mod RunMapLaws
-pub mod OutcomeLaws
 pub mod Examples
 pub mod ListExamples

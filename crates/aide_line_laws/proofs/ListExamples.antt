@@ -2,7 +2,7 @@
 use Rattle.std.proofs.Common.{◌≡◌, ℕ, Bool, true, false, List, [], ◌∷◌, Some, None, Ok, refl, inr}
 use Rattle.std.specs.Prelude.{codes}
 use Rattle.aide_attr.specs.Attr.{attr_of_column, row, row_of}
-use Rattle.aide_attr.specs.declared.attr.Attr.TheVariants.{Caps, Sha256}
+use Rattle.aide_attr.specs.declared.attr.Attr.TheVariants.{Caps, Sha256, Uid}
 use Rattle.aide_entry.specs.Columns.{has_column}
 use Rattle.aide_entry.specs.Fields.{column_named, columns_of}
 use Rattle.aide_entry.specs.Text.{fields}
@@ -23,7 +23,7 @@ use Rattle.aide_patterns.specs.Rules.{IsFirst, Names}
 use Rattle.aide_patterns.specs.declared.fault.PatternFault.TheVariants.{DoubleStar, NoPath}
 use Rattle.aide_patterns.proofs.DotLemmas.{text_meaning}
 use Rattle.aide_patterns.proofs.MeaningLemmas.{parts_sound}
-use Rattle.aide_line_laws.proofs.Examples.{apart, directory, file, octal}
+use Rattle.aide_line_laws.proofs.Examples.{apart, directory, file, octal, without}
 
 -- ---- the lists of the examples
 
@@ -66,6 +66,10 @@ pub KeepsWriters_example : KeepsWriters None (directory 755 60 2) × ¬ (KeepsWr
 unfolding row_of row
 KeepsWriters_example =
     (writers_mean None (directory 755 60 2) refl refl, λ h. let e = writers_from None (directory 1777 60 2) (λ is. h) in cc)
+
+pub KeepsWriters_example_owner : ¬ (KeepsWriters None (without Uid (directory 755 60 2)))
+unfolding row_of row
+KeepsWriters_example_owner h = let e = h.owned in cc
 
 pub is_setting_example : (is_setting (codes "/etc/aide-compare/without") ≡ true) × (is_setting (codes "/etc/aide-compared") ≡ false)
 is_setting_example = (refl, refl)

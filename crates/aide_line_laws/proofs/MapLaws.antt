@@ -1,7 +1,7 @@
 -- A path has a line exactly if the databases differ there, and the line says what accounts for this.
 use Rattle.std.proofs.Common.{◌≡◌, ◌∙◌, ◌∷◌, Bool, List, None, Option, Some, [], ap, false, inl, inr, map, refl, rules, subst, sym, true, ℕ}
 use Rattle.std.proofs.Common.{if◌then◌else◌}
-use Rattle.std.specs.Prelude.{◌&&◌, cond, not, T}
+use Rattle.std.specs.Prelude.{cond, T}
 use Rattle.std.specs.List.{AllByRecursion}
 use Rattle.std.specs.Ordering.{is_eq, is_lt, eq_by_cmp, ordering_reverse}
 use Rattle.std.specs.declared.cmp.Ordering.{Ordering}
@@ -10,9 +10,11 @@ use Rattle.std.specs.Cmp.{tied_itself}
 use Rattle.std.specs.FinMap.{entries_sorted, get, get-entries}
 use Rattle.std.specs.FinMap.Entries.{below_all, find, is_sorted}
 use Rattle.aide_agreement.specs.Account.{Pair, is_as_old, is_as_trusted, same_as}
-use Rattle.aide_agreement.specs.Agreement.{agree}
+use Rattle.aide_agreement.specs.Happened.{HappenedThere}
 use Rattle.aide_agreement.specs.declared.account.SameAs.TheVariants as same
+use Rattle.aide_agreement.proofs.HappenedLemmas.{happened_from, happened_means}
 use Rattle.aide_agreement.proofs.Laws.{agree_from_meaning, meaning_of_agree}
+use Rattle.aide_attr.proofs.WalkLemmas.{bool_cases}
 use Rattle.aide_attr.specs.declared.delta.Ignore.{Ignore}
 use Rattle.aide_conf.specs.declared.options.Options.{Options}
 use Rattle.aide_db.specs.Database.{IsSound}
@@ -30,13 +32,15 @@ use Rattle.aide_merge.specs.Compare.{changes, compared}
 use Rattle.aide_merge.specs.Said.{PathChange}
 use Rattle.aide_merge.specs.Said.{all_listed, is_in}
 use Rattle.aide_merge.proofs.MergeLemmas.{and_first, and_second, get-compared, lt_less, paired}
-use Rattle.aide_line_run.specs.Lines.{by_texts}
+use Rattle.aide_line_run.specs.LineCounts.{line_counts, status_by}
+use Rattle.aide_line_run.specs.Lines.{by_texts, read_of}
 use Rattle.aide_line_run.specs.Listed.{ListRead, account_by}
 use Rattle.aide_line_laws.specs.ByteValues.{AreBytes}
 use Rattle.aide_line_laws.specs.Field.{Field}
-use Rattle.aide_line_laws.specs.OverMaps.{AreApart, HappenedThere, IsAbout, IsAccount, IsFramed, IsOneOf, LeavesOut, SayAll}
+use Rattle.aide_line_laws.specs.OverMaps.{AreApart, IsAbout, IsAccount, IsFramed, IsOneOf, LeavesOut, SayAll}
 use Rattle.aide_line_laws.specs.OverMaps.{SaysOne, StayedAsOld, differ_beyond, left_out_of}
 use Rattle.aide_line_laws.specs.TextFields.{change_fields, fields_of_texts}
+use Rattle.aide_line_laws.proofs.FrameLaws.{closing_of_none, opening_of_none}
 use Rattle.aide_line_laws.proofs.ReadingLaws.{account_is_read_back, path_is_read_back}
 use Rattle.aide_line_laws.proofs.TextLaws.{IsChangeOfBytes, changes_bytes}
 
@@ -54,45 +58,11 @@ stayed_is pair h = ap is_as_old h.both ∙ agree_from_meaning h.old h.new h.agre
 not_stayed : (pair : Pair) → (StayedAsOld pair → ⊥) → is_as_old pair ≡ false
 not_stayed pair apart = search (rules, is_stayed)
 
-both_of : (a b : Bool) → a && b ≡ true → (a ≡ true) × (b ≡ true)
-both_of true b e = (refl, e)
-both_of false b e = cc
-
-is_happened : (found trusted : Pair) → is_as_trusted found trusted ≡ true → HappenedThere found trusted
-is_happened (old, Some new) (trusted_old, Some trusted_new) e =
-    let h = both_of (agree new trusted_new) (not (is_as_old (trusted_old, Some trusted_new))) e in
-    (meaning_of_agree new trusted_new h.0, λ stayed. absurd (subst (λ b. not b ≡ true → ⊥) (sym (stayed_is _ stayed)) (λ f. cc f) h.1))
-is_happened (Some old, Some new) (Some trusted_old, None) e = cc
-is_happened (Some old, Some new) (None, None) e = cc
-is_happened (None, Some new) (Some trusted_old, None) e = cc
-is_happened (None, Some new) (None, None) e = cc
-is_happened (Some old, None) (Some trusted_old, None) e = meaning_of_agree old trusted_old e
-is_happened (Some old, None) (None, None) e = cc
-is_happened (Some old, None) (None, Some trusted_new) e = cc
-is_happened (Some old, None) (Some trusted_old, Some trusted_new) e = cc
-is_happened (None, None) (None, None) e = cc
-is_happened (None, None) (None, Some trusted_new) e = cc
-is_happened (None, None) (Some trusted_old, None) e = cc
-is_happened (None, None) (Some trusted_old, Some trusted_new) e = cc
-
-happened_is : (found trusted : Pair) → HappenedThere found trusted → is_as_trusted found trusted ≡ true
-happened_is (old, Some new) (trusted_old, Some trusted_new) h =
-    rw (agree_from_meaning new trusted_new h.0, not_stayed (trusted_old, Some trusted_new) h.1) refl
-happened_is (Some old, Some new) (Some trusted_old, None) h = absurd h
-happened_is (Some old, Some new) (None, None) h = absurd h
-happened_is (None, Some new) (Some trusted_old, None) h = absurd h
-happened_is (None, Some new) (None, None) h = absurd h
-happened_is (Some old, None) (Some trusted_old, None) h = agree_from_meaning old trusted_old h
-happened_is (Some old, None) (None, None) h = absurd h
-happened_is (Some old, None) (None, Some trusted_new) h = absurd h
-happened_is (Some old, None) (Some trusted_old, Some trusted_new) h = absurd h
-happened_is (None, None) (None, None) h = absurd h
-happened_is (None, None) (None, Some trusted_new) h = absurd h
-happened_is (None, None) (Some trusted_old, None) h = absurd h
-happened_is (None, None) (Some trusted_old, Some trusted_new) h = absurd h
-
 not_happened : (found trusted : Pair) → (HappenedThere found trusted → ⊥) → is_as_trusted found trusted ≡ false
-not_happened found trusted apart = search (rules, is_happened)
+not_happened found trusted apart = elim (bool_cases (is_as_trusted found trusted)) [
+  | inl is ↦ absurd (apart (happened_means found trusted is))
+  | inr is ↦ is
+]
 
 -- what the tests give: the old entry first, then the trusted machine, then the line of a list
 abbrev chosen_by : Bool → Bool → Option ℕ → Option Account
@@ -121,7 +91,7 @@ never_old : (pair : Pair) → is_as_old pair ≡ false → StayedAsOld pair → 
 never_old pair e stayed = let f = sym e ∙ stayed_is pair stayed in cc
 
 never_trusted : (found trusted : Pair) → is_as_trusted found trusted ≡ false → HappenedThere found trusted → ⊥
-never_trusted found trusted e happened = let f = sym e ∙ happened_is found trusted happened in cc
+never_trusted found trusted e happened = let f = sym e ∙ happened_from found trusted happened in cc
 
 -- What is said to account for a change does, and is said if it does: an entry, or the line of a list.
 pub account_by_is_account : (found trusted : Pair) (line : Option ℕ) (leaves : ℕ → Type 0)
@@ -134,8 +104,8 @@ account_by_is_account found trusted line leaves means from =
     record {
       old = λ e. is_stayed found (is_old a b line e);
       from_old = λ stayed. rw (stayed_is found stayed) refl;
-      trusted = λ e. let h = is_trusted a b line e in (is_happened found trusted h.1, never_old found h.0);
-      from_trusted = λ happened apart. rw (not_stayed found apart, happened_is found trusted happened) refl;
+      trusted = λ e. let h = is_trusted a b line e in (happened_means found trusted h.1, never_old found h.0);
+      from_trusted = λ happened apart. rw (not_stayed found apart, happened_from found trusted happened) refl;
       left_out = λ number e. let h = is_left_out a b line number e in
           (means number h.2, never_old found h.0, never_trusted found trusted h.1);
       from_left_out = λ number is apart others.
@@ -336,11 +306,22 @@ pub lines_of_texts_say_all : (limits : Limits) (list : ListRead) (wish trusted :
     → (lines : List (List Field)) × IsFramed lines (fields_of_texts list wish trusted old new trusted_old trusted_new)
     × SayAll wish.options.ignore (database_of old) (database_of new)
     (λ path. (get (database_of trusted_old) path, get (database_of trusted_new) path)) (left_out_of list old new) lines
-lines_of_texts_say_all limits list wish trusted old new trusted_old trusted_new old_sound new_sound old_bytes new_bytes = (
-  _,
-  record { first = _; last = _; parts = refl },
-  lines_say_all wish.options (database_of old) (database_of new)
-      (λ path. (get (database_of trusted_old) path, get (database_of trusted_new) path)) (left_out_of list old new)
-      (by_texts list old new trusted_old trusted_new) (by_texts_is_account list old new trusted_old trusted_new)
-      (changes_bytes limits old new old_sound new_sound old_bytes new_bytes),
-)
+lines_of_texts_say_all limits list wish trusted old new trusted_old trusted_new old_sound new_sound old_bytes new_bytes =
+    let counts =
+    line_counts wish.options (by_texts list old new trusted_old trusted_new) (database_of old) (database_of new) in (
+      _,
+      record {
+        first = _;
+        last = _;
+        parts = refl;
+        is_first = refl;
+        is_last = refl;
+        first_of_none = opening_of_none wish.old_path wish.new_path trusted.old_path trusted.new_path;
+        last_of_none = closing_of_none (read_of old) (read_of new) (read_of trusted_old) (read_of trusted_new) list.digest counts
+            (status_by counts);
+      },
+      lines_say_all wish.options (database_of old) (database_of new)
+          (λ path. (get (database_of trusted_old) path, get (database_of trusted_new) path)) (left_out_of list old new)
+          (by_texts list old new trusted_old trusted_new) (by_texts_is_account list old new trusted_old trusted_new)
+          (changes_bytes limits old new old_sound new_sound old_bytes new_bytes),
+    )

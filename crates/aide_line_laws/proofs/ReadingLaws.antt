@@ -12,7 +12,7 @@ use Rattle.aide_attr.specs.declared.attr.Attr.{Attr}
 use Rattle.aide_attr.specs.declared.file_type.FileType.{FileType}
 use Rattle.aide_conf.specs.declared.options.Options.{Options}
 use Rattle.aide_entry.specs.Attributes.{Attributes}
-use Rattle.aide_line_text.specs.Entry.{kind_word, type_at}
+use Rattle.aide_agreement.specs.Kind.{kind_word, type_at}
 use Rattle.aide_line_text.specs.declared.account.Account.{Account}
 use Rattle.aide_line_text.specs.declared.account.Account.TheVariants.{LeftOut, Old, Trusted}
 use Rattle.aide_line_run.specs.ChangeLines.{Accounts, widest}

@@ -1,5 +1,5 @@
 -- What a run has written after `Ok` says all: a path has a line exactly if the databases differ there.
-use Rattle.std.proofs.Common.{ℕ, List, Some, None, Ok, refl, subst}
+use Rattle.std.proofs.Common.{◌≡◌, ◌++◌, ℕ, List, Some, None, Ok, Err, refl, subst}
 use Rattle.std.specs.FinMap.{get}
 use Rattle.aide_db.specs.Map.{database_of}
 use Rattle.aide_db.specs.declared.limits.Limits.{Limits}
@@ -7,17 +7,22 @@ use Rattle.aide_db.specs.declared.side.Side.TheVariants.{Old, New}
 use Rattle.aide_merge.specs.Outcomes.{outcome_over}
 use Rattle.aide_merge.specs.Seen.{SinkSeen}
 use Rattle.aide_merge.specs.declared.outcome.Outcome.{Outcome}
-use Rattle.aide_line_run.specs.EmptyDatabase.{empty_database}
+use Rattle.aide_db.specs.EmptyDatabase.{empty_database}
 use Rattle.aide_line_run.specs.Lines.{lines_of_texts}
 use Rattle.aide_line_run.specs.Listed.{ListRead}
 use Rattle.aide_line_run.specs.PairSeen.{Gives, PairSeen}
 use Rattle.aide_line_run.specs.LinesRun.{IsLinesRun}
+use Rattle.aide_line_run.specs.declared.pair_fault.PairFault.{PairFault}
 use Rattle.aide_line_laws.specs.ByteValues.{AreBytes}
+use Rattle.aide_line_laws.specs.Complete.{AreComplete, LeavesUnfinished}
+use Rattle.aide_line_laws.specs.Field.{Field}
+use Rattle.aide_line_laws.specs.JsonLine.{AreJsonLines}
 use Rattle.aide_line_laws.specs.OverMaps.{HasSaidAll, left_out_of}
 use Rattle.aide_line_laws.specs.TextFields.{fields_of_texts}
 use Rattle.aide_line_laws.proofs.JsonLaws.{ArePathsOfBytes, lines_are_complete, lines_are_json}
+use Rattle.aide_line_laws.proofs.JsonLaws.{no_fault_completes_lines}
 use Rattle.aide_line_laws.proofs.MapLaws.{lines_of_texts_say_all}
-use Rattle.aide_line_run.proofs.NoEntries.{no_entries_are_none}
+use Rattle.aide_db.proofs.NoEntries.{no_entries_are_none}
 
 -- After `Ok` a run over four texts of bytes has written lines that say all of the first two maps, by what the trusted two
 -- have at each path and by what the list leaves out.
@@ -75,3 +80,18 @@ a_run_says_all limits list p q o s old new gives none_gives old_bytes new_bytes 
     o.delivered s.delivered) (λ i path. (no_entries_are_none path i, no_entries_are_none path i))
     (a_trusted_run_says_all limits list p q o s old new empty_database empty_database gives none_gives old_bytes new_bytes paths others
     digest outcome run)
+
+-- After a fault it has not written complete lines, unless the output failed over four sound texts: none of the lines that have been
+-- written is a last one.
+pub a_fault_leaves_lines_unfinished : (limits : Limits) (list : ListRead) (p q : PairSeen) (o s : SinkSeen)
+    (old new trusted_old trusted_new : List ℕ)
+    → Gives p old new → Gives q trusted_old trusted_new → AreBytes old → AreBytes new
+    → ArePathsOfBytes p.asked → ArePathsOfBytes q.asked
+    → (fault : PairFault) → IsLinesRun limits list p q o s (Err fault)
+    → LeavesUnfinished limits old new trusted_old trusted_new fault
+    → (before whole rest : List ℕ) (all : List (List Field)) → o.delivered ≡ Some before
+    → s.delivered ≡ Some (before ++ (whole ++ rest)) → AreJsonLines whole all → AreComplete all → ⊥
+a_fault_leaves_lines_unfinished limits list p q o s old new trusted_old trusted_new gives trusted_gives old_bytes new_bytes paths others
+    fault run left =
+    no_fault_completes_lines limits list p q o s old new trusted_old trusted_new gives trusted_gives fault run left old_bytes new_bytes
+    paths others

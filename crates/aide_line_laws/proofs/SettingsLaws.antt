@@ -15,7 +15,7 @@ use Rattle.aide_attr.specs.declared.set.AttrSet.{AttrSet}
 use Rattle.aide_conf.specs.declared.options.Options.{Options}
 use Rattle.aide_json.specs.Json.{quoted}
 use Rattle.aide_json.specs.Member.{member}
-use Rattle.aide_settings_text.specs.Settings.{path_member, attr_string, attrs_array, set_members, settings_line, truth}
+use Rattle.aide_line_text.specs.Settings.{path_member, attr_string, attrs_array, set_members, settings_line, truth}
 use Rattle.aide_line_laws.specs.ByteValues.{AreBytesIfAny}
 use Rattle.aide_line_laws.specs.Field.{null_or_text_field}
 use Rattle.aide_line_laws.specs.SettingsFields.{set_field, set_fields, settings_fields}

@@ -1,10 +1,15 @@
 -- What a reader learns from the last line: that no line is missing, and what was read.
 use Rattle.std.specs.Io.KnownBytes.{Appends}
 use Rattle.std.specs.Prelude.{◌≡◌, ℕ, true, List, [], ◌∷◌, ◌++◌, Option, Some, None, codes}
-use Rattle.std.specs.Prelude.{option_and_then}
+use Rattle.std.specs.Prelude.{option_and_then, ⊤}
 use Rattle.std.specs.List.{AllByRecursion}
 use Rattle.json.specs.Json.{Json, Members, boolean, member, no_members, object}
 use Rattle.sha2.specs.Sha256.{sha256}
+use Rattle.aide_db.specs.declared.limits.Limits.{Limits}
+use Rattle.aide_merge.specs.declared.run_fault.RunFault.TheVariants.{Write}
+use Rattle.aide_line_run.specs.RunEnds.{AreAllSound}
+use Rattle.aide_line_run.specs.declared.pair_fault.PairFault.{PairFault}
+use Rattle.aide_line_run.specs.declared.pair_fault.PairFault.TheVariants.{Compared}
 use Rattle.aide_line_laws.specs.Field.{Field}
 use Rattle.aide_line_laws.specs.JsonLine.{IsJsonLine}
 use Rattle.aide_line_laws.specs.Reading.{bytes_of, value_under}
@@ -18,6 +23,13 @@ abbrev pub AreComplete : List (List Field) → Type 0
 AreComplete [] = ⊥
 AreComplete (fields ∷ []) = IsLast fields
 AreComplete (fields ∷ next ∷ all) = AreComplete (next ∷ all)
+
+-- any fault but a failed write of the lines of four sound texts
+abbrev pub LeavesUnfinished : Limits → (old new trusted_old trusted_new : List ℕ) → PairFault
+    → Type 0
+LeavesUnfinished limits old new trusted_old trusted_new (Compared (Write written)) =
+    AreAllSound limits old new trusted_old trusted_new → ⊥
+LeavesUnfinished limits old new trusted_old trusted_new _ = ⊤
 
 -- the members, in this order
 abbrev pub fields_in : Members → List Field

@@ -13,7 +13,7 @@ use Rattle.aide_attr.specs.declared.form.Form.TheVariants.{Opaque}
 use Rattle.aide_entry.specs.Attributes.{Attributes, Value, type_in, link_in, number_in, digest_in}
 use Rattle.aide_entry.specs.Attributes.{opaque_in}
 use Rattle.aide_line_text.specs.Ends.{is_skipped, numbers}
-use Rattle.aide_line_text.specs.Entry.{kind_word, type_at}
+use Rattle.aide_agreement.specs.Kind.{kind_word, type_at}
 use Rattle.aide_line_text.specs.Frame.{ReadFacts}
 use Rattle.aide_line_text.specs.declared.account.Account.{Account}
 use Rattle.aide_line_text.specs.declared.account.Account.TheVariants.{LeftOut, Old, Trusted}

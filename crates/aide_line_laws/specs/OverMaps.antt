@@ -4,6 +4,7 @@ use Rattle.std.specs.Prelude.{None, ⊤, codes}
 use Rattle.std.specs.FinMap.{get}
 use Rattle.std.specs.Io.KnownBytes.{Appends}
 use Rattle.aide_agreement.specs.Account.{Pair}
+use Rattle.aide_agreement.specs.Happened.{HappenedThere}
 use Rattle.aide_agreement.specs.Meaning.{Agrees}
 use Rattle.aide_attr.specs.declared.delta.Ignore.{Ignore}
 use Rattle.aide_db.specs.Map.{Database}
@@ -13,10 +14,10 @@ use Rattle.aide_line_text.specs.declared.account.Account.{Account}
 use Rattle.aide_line_text.specs.declared.account.Account.TheVariants.{LeftOut, Old, Trusted}
 use Rattle.aide_merge.specs.Changed.{differ_by}
 use Rattle.aide_line_run.specs.Listed.{ListRead, measures_between}
-use Rattle.aide_line_laws.specs.Complete.{AreComplete}
-use Rattle.aide_line_laws.specs.Field.{Field}
+use Rattle.aide_line_laws.specs.Complete.{AreComplete, IsLast}
+use Rattle.aide_line_laws.specs.Field.{Field, count_json}
 use Rattle.aide_line_laws.specs.JsonLine.{AreJsonLines}
-use Rattle.aide_line_laws.specs.Reading.{SaysAccount, text_under}
+use Rattle.aide_line_laws.specs.Reading.{SaysAccount, text_under, value_under}
 
 -- ---- one path
 
@@ -34,15 +35,6 @@ pub record StayedAsOld (pair : Pair) : Type 0 where
   pub new : Attributes
   pub both : pair ≡ (Some old, Some new)
   pub agrees : Agrees old new
-
--- The same happened at the path of a trusted machine: it has an entry that agrees with the new one,
--- and its own old entry does not agree with that; or it had an entry that agrees with the removed
--- one, and has none any more.
-abbrev pub HappenedThere : (found trusted : Pair) → Type 0
-HappenedThere (old, Some new) (trusted_old, Some trusted_new) =
-    Agrees new trusted_new × (StayedAsOld (trusted_old, Some trusted_new) → ⊥)
-HappenedThere (Some old, None) (Some trusted_old, None) = Agrees old trusted_old
-HappenedThere _ _ = ⊥
 
 -- which lines of a list leave out the change at a path
 abbrev pub LeavesOut : Type 1
@@ -86,11 +78,19 @@ AreApart (line ∷ lines) =
     ((other : List Field) → IsOneOf other lines → (path : List ℕ) → IsAbout path line
     → IsAbout path other → ⊥) × AreApart lines
 
--- these lines, with a first and a last one around them
+-- the line is a first one: it has the number of the format
+abbrev pub IsFirstLine : List Field → Type 0
+IsFirstLine fields = value_under (codes "format") fields ≡ Some (count_json 4)
+
+-- These lines, with a first and a last one around them, which are about no path.
 pub record IsFramed (lines all : List (List Field)) : Type 0 where
   pub first : List Field
   pub last : List Field
   pub parts : all ≡ first ∷ (lines ++ last ∷ [])
+  pub is_first : IsFirstLine first
+  pub is_last : IsLast last
+  pub first_of_none : (path : List ℕ) → IsAbout path first → ⊥
+  pub last_of_none : (path : List ℕ) → IsAbout path last → ⊥
 
 -- a line is about a path at which the databases differ, and says what accounts for this
 pub record SaysOne (ignore : Ignore) (old new : Database) (there : List ℕ → Pair)
