@@ -6,10 +6,10 @@ use Rattle.std.specs.Io.KnownBytes.{Keeps}
 use Rattle.aide_attr.specs.declared.level.Level.{Level}
 use Rattle.aide_attr.specs.declared.level.Level.TheVariants.{DatabaseAttributes}
 use Rattle.aide_conf.specs.declared.options.Options.{Options}
-use Rattle.aide_report.specs.Agreement.{BeginsWith, beginning_of, goes_on}
-use Rattle.aide_report.specs.Report.{Origin, databases_of, databases_text, is_silent}
+use Rattle.aide_report_specs.specs.Agreement.{BeginsWith, beginning_of, goes_on}
+use Rattle.aide_report_specs.specs.Report.{Origin, databases_of, databases_text, is_silent}
 use Rattle.aide_text.specs.Overview.{overview_of, when, databases_differ}
-use Rattle.aide_report.specs.Sections.{has_entry, is_there}
+use Rattle.aide_report_specs.specs.Sections.{has_entry, is_there}
 use Rattle.aide_text.specs.Section.{contents_of, fits, grouped_of, level_of, row, row_of}
 use Rattle.aide_attr.specs.Level.{rank, reaches}
 use Rattle.aide_text.specs.Sheet.{Sheet, Wrote, WritesFirst, WritesSome}

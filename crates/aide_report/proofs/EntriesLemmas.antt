@@ -10,9 +10,9 @@ use Rattle.aide_entry.specs.Attributes.{Entry}
 use Rattle.aide_merge.specs.code.ChangeView.{alike_of}
 use Rattle.aide_merge.specs.Changed.{differ_by}
 use Rattle.aide_merge.specs.Said.{PathChange}
-use Rattle.aide_report.specs.Entries.{attribute_text, attributes_text, shown_text}
+use Rattle.aide_report_specs.specs.Entries.{attribute_text, attributes_text, shown_text}
 use Rattle.aide_merge.specs.Said.{all_listed, is_in}
-use Rattle.aide_report.specs.Sections.{lists, entry_text, one_text, entries_text}
+use Rattle.aide_report_specs.specs.Sections.{lists, entry_text, one_text, entries_text}
 use Rattle.aide_merge.proofs.SameEntries.{and_no, in_none, nowhere}
 use Rattle.aide_merge.proofs.PassingLemmas.{all_passing}
 use Rattle.aide_text.specs.declared.section.Contents.{Contents}

@@ -10,7 +10,7 @@ use Rattle.aide_text.specs.Sheet.{WritesFirst}
 use Rattle.aide_text.specs.declared.pen.Pen.{Pen}
 use Rattle.aide_text.specs.declared.sink.Sink.{Ghosts as Sinks}
 use Rattle.aide_text.proofs.Sheets.{wrote_part}
-use Rattle.aide_report.specs.Agreement.{BeginsWith}
+use Rattle.aide_report_specs.specs.Agreement.{BeginsWith}
 use Rattle.aide_report.specs.code.Flushes.{EndsFlushed}
 use Rattle.aide_report.specs.code.PassFaults.{Writes}
 use Rattle.aide_report.specs.code.Passes.{FlushesOnce, KeepsPen, Passes}

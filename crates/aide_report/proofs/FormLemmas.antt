@@ -1,11 +1,11 @@
 -- The texts of the forms that one attribute alone has.
 use Rattle.std.proofs.Common.{◌≡◌, ◌∙◌, Bool, sym, ap}
+use Rattle.aide_attr.proofs.FormLemmas.{kind_alone, link_alone}
 use Rattle.aide_attr.specs.Attr.{form_of}
 use Rattle.aide_attr.specs.declared.attr.Attr.{Attr}
 use Rattle.aide_attr.specs.declared.attr.Attr.TheVariants.{Ftype, Lname}
 use Rattle.aide_attr.specs.declared.form.Form.TheVariants.{Kind, Link}
 use Rattle.aide_entry.specs.Attributes.{Attributes, type_in, link_in}
-use Rattle.aide_line_text.proofs.FormLemmas.{kind_alone, link_alone}
 use Rattle.aide_text.specs.ValueText.{option_text, type_text, printed_link, text_at, value_in}
 
 -- the text of an attribute of such a form is that of the attribute that alone has it

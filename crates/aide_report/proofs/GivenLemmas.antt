@@ -4,7 +4,7 @@ use Rattle.std.proofs.Common.{◌∙◌, ap, arith, inl, inr, subst, sym, rules}
 use Rattle.std.proofs.lemmas.Bool.Decides.{leb_tells}
 use Rattle.sha2.specs.Sha256.{sha256}
 use Rattle.aide_db.specs.Answer.{StandsFor}
-use Rattle.aide_db.specs.Count.{sum_of}
+use Rattle.aide_entry.specs.Count.{sum_of}
 use Rattle.aide_db.specs.Desk.{list_of, columns_of_side}
 use Rattle.aide_db.specs.DeskView.{DeskView}
 use Rattle.aide_db.specs.declared.limits.Limits.{Limits}
@@ -12,7 +12,7 @@ use Rattle.aide_db.specs.declared.reel.Reel.{Ghosts as Reels}
 use Rattle.aide_db.specs.declared.side.Side.{Side}
 use Rattle.aide_db.specs.declared.side.Side.TheVariants.{Old, New}
 use Rattle.aide_entry.specs.declared.column.Column.{Column}
-use Rattle.aide_report.specs.Given.{GiveOneDigest}
+use Rattle.aide_report_specs.specs.Given.{GiveOneDigest}
 use Rattle.aide_merge.specs.Openings.{OpensExactly}
 use Rattle.aide_merge.specs.code.Digests.{AreDigests, digest_on}
 use Rattle.aide_report.specs.code.GivenDigests.{GaveDigests, next_given}

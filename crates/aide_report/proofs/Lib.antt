@@ -4,7 +4,6 @@ pub mod EntriesLemmas
 pub mod SectionsLemmas
 pub mod SectionLaws
 pub mod ReportLemmas
-pub mod Laws
 pub mod RunLaws
 pub mod CountLemmas
 pub mod RunLemmas

@@ -7,11 +7,11 @@ use Rattle.aide_db.specs.declared.limits.Limits.{Limits}
 use Rattle.aide_db.specs.declared.side.Side.{Side}
 use Rattle.aide_db.specs.declared.side.Side.TheVariants.{Old, New}
 use Rattle.aide_merge.specs.RightAnswer.{Report, RunsBy, TellsSide, RunsOverBy, IsHindered, run_answer, Causes}
-use Rattle.aide_report.specs.Runs.{EndsEarly, EndsWell}
+use Rattle.aide_report_specs.specs.Runs.{EndsEarly, EndsWell}
 use Rattle.aide_db.specs.Database.{IsSound}
 use Rattle.aide_entry.specs.Cause.{is_outside}
 use Rattle.aide_entry.specs.declared.fault_kind.DbFaultKind.TheVariants.{Memory, Read}
-use Rattle.aide_report.specs.Missing.{SendsFront, SendsWhole}
+use Rattle.aide_report_specs.specs.Missing.{SendsFront, SendsWhole}
 use Rattle.aide_report.specs.code.Passes.{IsPassFault}
 use Rattle.aide_merge.specs.RunFaults.{IsCaused, IsLater}
 use Rattle.aide_merge.specs.Seen.{Seen}

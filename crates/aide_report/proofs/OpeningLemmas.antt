@@ -1,7 +1,7 @@
 -- Which side is refused, by how often each was opened; and that nothing has gone out before the counting has ended.
 use Rattle.std.proofs.Common.{◌≡◌, ◌<◌, ◌≤◌, ◌-◌, ◌^◌, ℕ, ◌+◌, List, [], Option, arith}
 use Rattle.std.specs.Io.KnownBytes.{Appends}
-use Rattle.aide_db.specs.Count.{one_more, sum_of}
+use Rattle.aide_entry.specs.Count.{one_more, sum_of}
 use Rattle.aide_db.specs.declared.side.Side.{Side}
 use Rattle.aide_db.specs.declared.side.Side.TheVariants.{Old, New}
 use Rattle.aide_merge.specs.Openings.{OpensExactly, WasOpened, ComesOpened, IsRefusedIn, IsRefusedThere}

@@ -2,7 +2,7 @@
 use Rattle.std.proofs.Common.{◌≡◌, true, false, if◌then◌else◌, List, [], ap}
 use Rattle.aide_conf.specs.declared.options.Options.{Options}
 use Rattle.aide_merge.specs.Said.{PathChange}
-use Rattle.aide_report.specs.Report.{Origin, is_silent, parts_of, text_of}
+use Rattle.aide_report_specs.specs.Report.{Origin, is_silent, parts_of, text_of}
 use Rattle.aide_text.specs.Overview.{differs}
 use Rattle.aide_text.specs.declared.counts.Counts.{Counts}
 

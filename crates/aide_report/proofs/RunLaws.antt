@@ -7,12 +7,12 @@ use Rattle.aide_db.specs.declared.fault.DbFault.{DbFault}
 use Rattle.aide_db.specs.declared.limits.Limits.{Limits}
 use Rattle.aide_db.specs.declared.side.Side.{Side}
 use Rattle.aide_merge.specs.Asked.{Asked}
-use Rattle.aide_report.specs.Given.{GiveOneDigest, IsGiven}
-use Rattle.aide_report.specs.Missing.{RunsOver, EndsOver}
+use Rattle.aide_report_specs.specs.Given.{GiveOneDigest, IsGiven}
+use Rattle.aide_report_specs.specs.Missing.{RunsOver, EndsOver}
 use Rattle.aide_merge.specs.RightAnswer.{IsHindered}
 use Rattle.aide_merge.specs.RunFaults.{CountsWrites}
 use Rattle.aide_merge.specs.RightAnswer.{Report}
-use Rattle.aide_report.specs.Runs.{Runs, HasAnswer, EndsWell, EndsEarly, report_over}
+use Rattle.aide_report_specs.specs.Runs.{Runs, HasAnswer, EndsWell, EndsEarly, report_over}
 use Rattle.aide_merge.specs.declared.outcome.Outcome.{Outcome}
 use Rattle.aide_merge.specs.declared.run_fault.RunFault.{RunFault}
 use Rattle.aide_merge.specs.declared.run_fault.RunFault.TheVariants.{Database, Write}

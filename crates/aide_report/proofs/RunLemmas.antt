@@ -21,11 +21,11 @@ use Rattle.aide_merge.specs.Said.{is_shown_entry}
 use Rattle.aide_report.specs.code.Finding.{IsFinding, old_origin, new_origin}
 use Rattle.aide_merge.specs.code.Merging.{pass_of}
 use Rattle.aide_merge.specs.declared.outcome.Outcome.{Outcome}
-use Rattle.aide_report.specs.Report.{text_of, section_count}
+use Rattle.aide_report_specs.specs.Report.{text_of, section_count}
 use Rattle.aide_merge.specs.Outcomes.{counts_of, outcome_by}
 use Rattle.aide_report.specs.declared.finding.Finding.{Finding}
 use Rattle.aide_merge.specs.RightAnswer.{Report, RunsBy}
-use Rattle.aide_report.specs.Runs.{report_over, sections_over, Runs, EndsWell, EndsEarly}
+use Rattle.aide_report_specs.specs.Runs.{report_over, sections_over, Runs, EndsWell, EndsEarly}
 use Rattle.aide_text.specs.Sent.{SendsPart}
 use Rattle.aide_text.specs.declared.counts.Counts.{Counts}
 use Rattle.aide_merge.proofs.FirstFaults.{RunsBy-unique}

@@ -10,14 +10,14 @@ use Rattle.aide_db.specs.declared.side.Side.TheVariants.{Old, New}
 use Rattle.aide_text.specs.Failures.{Rose}
 use Rattle.aide_text.specs.declared.sink.Sink.{Ghosts as AnySink}
 use Rattle.aide_text.proofs.Sending.{Appends-nothing}
-use Rattle.aide_report.specs.Agreement.{IsOfOutcome, OpensByOutcome}
+use Rattle.aide_report_specs.specs.Agreement.{IsOfOutcome, OpensByOutcome}
 use Rattle.aide_merge.specs.Asked.{Asked}
 use Rattle.aide_merge.specs.RightAnswer.{IsHindered}
-use Rattle.aide_report.specs.Given.{GiveOneDigest}
+use Rattle.aide_report_specs.specs.Given.{GiveOneDigest}
 use Rattle.aide_merge.specs.Openings.{OpensAtMost, OpensExactly}
 use Rattle.aide_report.specs.Run.{IsRun}
 use Rattle.aide_merge.specs.RunFaults.{HasSentNothing, HasWrittenIfAny, IsCaused}
-use Rattle.aide_report.specs.Runs.{EndsEarly, EndsWell, Runs, openings_over, report_over}
+use Rattle.aide_report_specs.specs.Runs.{EndsEarly, EndsWell, Runs, openings_over, report_over}
 use Rattle.aide_merge.specs.RightAnswer.{Report}
 use Rattle.aide_merge.specs.Seen.{KeepsSources, Seen, SinkSeen, sink_seen}
 use Rattle.aide_report.specs.code.Passes.{FlushesOnce, Passes}

@@ -11,7 +11,7 @@ use Rattle.aide_merge.specs.Changes.{is_added, is_removed, is_changed}
 use Rattle.aide_merge.specs.Compare.{changes, added, removed, changed}
 use Rattle.aide_merge.specs.Said.{is_shown_entry, is_in}
 use Rattle.aide_merge.specs.Outcomes.{counts_of}
-use Rattle.aide_report.specs.Sections.{has_entry, is_there}
+use Rattle.aide_report_specs.specs.Sections.{has_entry, is_there}
 use Rattle.aide_text.specs.declared.section.Section.{Section}
 use Rattle.aide_text.specs.declared.section.Contents.{Contents}
 use Rattle.aide_text.specs.declared.section.Contents.TheVariants.{Listed, Detailed}

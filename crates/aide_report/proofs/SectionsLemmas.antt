@@ -9,8 +9,8 @@ use Rattle.aide_conf.specs.declared.options.Options.{Options}
 use Rattle.aide_db.specs.declared.side.Side.{Side}
 use Rattle.aide_merge.specs.Openings.{OpensExactly, OpensAtMost}
 use Rattle.aide_text.specs.Overview.{differs}
-use Rattle.aide_report.specs.Report.{is_silent, section_count}
-use Rattle.aide_report.specs.Sections.{sections_of}
+use Rattle.aide_report_specs.specs.Report.{is_silent, section_count}
+use Rattle.aide_report_specs.specs.Sections.{sections_of}
 use Rattle.aide_text.specs.Section.{all_sections, fits, grouped_of}
 use Rattle.aide_text.specs.declared.counts.Counts.{Counts}
 

@@ -9,18 +9,18 @@ use Rattle.aide_db.specs.declared.fault.DbFault.{DbFault}
 use Rattle.aide_db.specs.declared.limits.Limits.{Limits}
 use Rattle.aide_db.specs.declared.side.Side.{Side}
 use Rattle.aide_db.specs.declared.side.Side.TheVariants.{Old, New}
-use Rattle.aide_report.specs.Agreement.{IsOfOutcome, OpensByOutcome}
+use Rattle.aide_report_specs.specs.Agreement.{IsOfOutcome, OpensByOutcome}
 use Rattle.aide_merge.specs.Asked.{Asked}
 use Rattle.aide_merge.specs.Bound.{three_lines}
-use Rattle.aide_report.specs.Given.{GiveOneDigest}
-use Rattle.aide_report.specs.Missing.{EndsOver, RunsOver}
+use Rattle.aide_report_specs.specs.Given.{GiveOneDigest}
+use Rattle.aide_report_specs.specs.Missing.{EndsOver, RunsOver}
 use Rattle.aide_merge.specs.RightAnswer.{IsHindered, IsOfReliable, TellsSide}
 use Rattle.aide_merge.specs.Openings.{IsNotGiven, IsRefusedThere, OpensAtMost, OpensExactly}
 use Rattle.aide_merge.specs.Openings.{OpensFirst}
 use Rattle.aide_merge.specs.Room.{IsNotOfMemory}
 use Rattle.aide_merge.specs.RunFaults.{CountsWrites, HasSentNothing, HasWrittenIfAny, IsRight}
 use Rattle.aide_merge.specs.RightAnswer.{HasCause, Report}
-use Rattle.aide_report.specs.Runs.{Runs, openings_over}
+use Rattle.aide_report_specs.specs.Runs.{Runs, openings_over}
 use Rattle.aide_merge.specs.Seen.{Seen, SinkSeen}
 use Rattle.aide_merge.specs.declared.outcome.Outcome.{Outcome}
 use Rattle.aide_merge.specs.declared.run_fault.RunFault.{RunFault}

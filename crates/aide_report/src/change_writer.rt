@@ -10,8 +10,9 @@ ghost use Rattle.aide_merge.specs.code.Merging.{remaining, IsReady, IsEnded, Sta
 ghost use Rattle.aide_text.specs.PenSheet.{on_sheet};
 ghost use Rattle.aide_text.specs.Sheet.{Wrote, WritesSome};
 
+use aide_agreement::Change;
 use aide_db::{DbFault, Desk, Reel, Side};
-use aide_merge::{AtPath, Change, Merge};
+use aide_merge::{AtPath, Merge};
 use aide_text::{Pen, Sink};
 use std::alloc::Allocator;
 

@@ -9,9 +9,10 @@ ghost use Rattle.aide_merge.specs.Said.{is_shown_entry, shows_any};
 ghost use Rattle.aide_merge.specs.code.MergeCalls.{IsMergeFault, KeepsMerge};
 ghost use Rattle.aide_merge.specs.code.Merging.{remaining, IsReady, IsEnded, StandsAt, total_work};
 
+use aide_agreement::Change;
 use aide_conf::Options;
 use aide_db::{DbFault, Desk, Reel, Side};
-use aide_merge::{AtPath, Change, Merge, said_of};
+use aide_merge::{AtPath, Merge, said_of};
 use aide_text::Counts;
 use std::alloc::Allocator;
 

@@ -1,7 +1,7 @@
 //! The databases' part of a report.
 ghost use Rattle.aide_report.specs.code.Finding.{old_origin, new_origin};
-ghost use Rattle.aide_report.specs.Report.{databases_of, origin_lines, databases_title};
-ghost use Rattle.aide_report.specs.Report.{databases_text};
+ghost use Rattle.aide_report_specs.specs.Report.{databases_of, origin_lines, databases_title};
+ghost use Rattle.aide_report_specs.specs.Report.{databases_text};
 ghost use Rattle.aide_text.specs.PenSheet.{on_sheet};
 ghost use Rattle.aide_text.specs.Sheet.{Wrote};
 
@@ -59,7 +59,7 @@ fn put_origins<W: Sink>(out: &mut W, pen: &mut Pen, task: &Task<'_>, finding: &F
 }
 
 /// Writes the databases' part, if the level has it.
-#[tactic(auto, unfolding(crate::specs::Report::databases_text))]
+#[tactic(auto, unfolding(aide_report_specs::specs::Report::databases_text))]
 pub(crate) fn put_databases<W: Sink>(out: &mut W, pen: &mut Pen, task: &Task<'_>, finding: &Finding)
     ensures { Wrote (databases_text task.now.options (old_origin task.now finding.now)
         (new_origin task.now finding.now))

@@ -5,9 +5,10 @@ ghost use Rattle.aide_attr.specs.declared.attr.Attr.{Attr as AnyAttr};
 ghost use Rattle.aide_entry.specs.Attributes.{link_in, digest_in, opaque_in};
 ghost use Rattle.aide_entry.specs.View.{entry_in};
 ghost use Rattle.aide_merge.specs.code.ChangeView.{change_of};
-ghost use Rattle.aide_report.specs.Entries.{attribute_text, attributes_text, shown_text, title_of};
-ghost use Rattle.aide_report.specs.Entries.{title_word};
-ghost use Rattle.aide_report.specs.Sections.{one_text};
+ghost use Rattle.aide_report_specs.specs.Entries.{attribute_text, attributes_text, shown_text};
+ghost use Rattle.aide_report_specs.specs.Entries.{title_of};
+ghost use Rattle.aide_report_specs.specs.Entries.{title_word};
+ghost use Rattle.aide_report_specs.specs.Sections.{one_text};
 ghost use Rattle.aide_text.specs.DecodedRest.{decoded_rest};
 ghost use Rattle.aide_text.specs.PenSheet.{on_sheet};
 ghost use Rattle.aide_text.specs.Printed.{printed};
@@ -18,11 +19,11 @@ ghost use Rattle.aide_text.specs.TextRest.{text_rest};
 ghost use Rattle.aide_text.specs.ValueText.{text_at, side_text, option_text, printed_link};
 ghost use Rattle.aide_text.specs.ValueText.{digest_text};
 
+use aide_agreement::{Change, type_at};
 use aide_attr::{Attr, AttrSet, FileType, Form};
 use aide_conf::Options;
 use aide_db::View;
-use aide_line_text::type_at;
-use aide_merge::{Change, name_of, said_of, sides_of};
+use aide_merge::{name_of, said_of};
 use aide_text::{
     Contents, DecodedFeed, Pen, Printed, Ready, Sink, SliceFeed, ValueText, digest_text, kind_text,
     mode_text, number_text, put_encoded_path_line, put_newline, put_side_by_side,
@@ -161,7 +162,7 @@ fn put_attribute<W: Sink>(out: &mut W, pen: &mut Pen, change: Change<'_>, attr: 
     put_side_by_side(out, pen, name, old, new);
 }
 
-#[tactic(auto, unfolding(crate::specs::Entries::shown_text))]
+#[tactic(auto, unfolding(aide_report_specs::specs::Entries::shown_text))]
 fn put_if_shown<W: Sink>(
     out: &mut W,
     pen: &mut Pen,
@@ -216,7 +217,7 @@ fn title_word(kind: Option<FileType>) -> &'static [u8]
 fn title(change: Change<'_>) -> &'static [u8]
     ensures { result.now ≡ title_of (change_of change.entry).1 }
 {
-    title_word(type_at(sides_of(change)))
+    title_word(type_at(change))
 }
 
 /// Writes the details of a change, and nothing if no attribute is shown.

@@ -1,17 +1,17 @@
 //! What a section writes of each change.
 ghost use Rattle.std.specs.Prelude.{◌≡◌};
 ghost use Rattle.aide_merge.specs.code.ChangeView.{change_of};
-ghost use Rattle.aide_report.specs.Entries.{list_line, label_of};
+ghost use Rattle.aide_report_specs.specs.Entries.{list_line, label_of};
 ghost use Rattle.aide_merge.specs.Said.{letters_of, all_listed};
-ghost use Rattle.aide_report.specs.Sections.{lists, one_text};
+ghost use Rattle.aide_report_specs.specs.Sections.{lists, one_text};
 ghost use Rattle.aide_text.specs.PenSheet.{on_sheet};
 ghost use Rattle.aide_text.specs.Sheet.{Wrote};
 
 use crate::change_writer::ChangeWriter;
 use crate::details::put_details;
+use aide_agreement::{Change, kind_word};
 use aide_conf::Options;
-use aide_line_text::kind_word;
-use aide_merge::{Change, letters, name_of, sides_of};
+use aide_merge::{letters, name_of};
 use aide_text::{Contents, Pen, Sink, put, put_encoded_path_end};
 
 /// Writes what comes before the path: the summary string, or a word.
@@ -29,7 +29,7 @@ fn put_label<W: Sink>(
     if options.summarize {
         put(out, pen, letters);
     } else {
-        put(out, pen, kind_word(sides_of(change)));
+        put(out, pen, kind_word(change));
     }
 }
 
@@ -103,7 +103,7 @@ pub(crate) struct SectionWriter<'a> {
 }
 
 impl<'a> ChangeWriter for SectionWriter<'a> {
-    ghost use Rattle.aide_report.specs.Sections.{one_text};
+    ghost use Rattle.aide_report_specs.specs.Sections.{one_text};
 
     ghost text_of = { λ writer. one_text writer.options.now writer.contents };
 

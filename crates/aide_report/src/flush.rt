@@ -1,7 +1,7 @@
 //! The end of what is written: one flush, if the writing came to its end.
 ghost use Rattle.aide_report.specs.code.Flushes.{EndsFlushed};
 
-use aide_db::DeviceFault;
+use aide_entry::DeviceFault;
 use aide_merge::RunFault;
 use aide_text::{Pen, Sink};
 

@@ -1,7 +1,7 @@
 //! Readings of databases: each whole, or both in lock step.
 ghost use Rattle.std.specs.Prelude.{◌≡◌, ℕ, List, ◌<◌, [], false, true, Some, IfOk, IfErr, OnOk};
 ghost use Rattle.std.specs.List.{flat_map};
-ghost use Rattle.aide_db.specs.Count.{one_more};
+ghost use Rattle.aide_entry.specs.Count.{one_more};
 ghost use Rattle.aide_db.specs.DeskView.{DeskView};
 ghost use Rattle.aide_db.specs.Map.{entries_of};
 ghost use Rattle.aide_entry.specs.Path.{path_cmp};

@@ -2,15 +2,15 @@
 ghost use Rattle.std.specs.Prelude.{◌≡◌, ◌+◌, false, true, ℕ, List, length, Some, OnOk};
 ghost use Rattle.aide_attr.specs.Level.{reaches};
 ghost use Rattle.aide_attr.specs.declared.level.Level.{Level as AnyLevel};
-ghost use Rattle.aide_report.specs.Agreement.{BeginsWith, beginning_by, goes_on_by};
+ghost use Rattle.aide_report_specs.specs.Agreement.{BeginsWith, beginning_by, goes_on_by};
 ghost use Rattle.aide_merge.specs.code.Digests.{AreDigests};
 ghost use Rattle.aide_merge.specs.code.Merging.{pass_of};
 ghost use Rattle.aide_report.specs.code.Finding.{old_origin, new_origin};
 ghost use Rattle.aide_report.specs.code.GivenDigests.{GaveDigests};
 ghost use Rattle.aide_report.specs.code.Passes.{FlushesOnce, KeepsPen, Passes, WritesOver};
 ghost use Rattle.aide_text.specs.PenSheet.{on_sheet};
-ghost use Rattle.aide_report.specs.Report.{is_silent, parts_of, text_of, section_count};
-ghost use Rattle.aide_report.specs.Sections.{sections_of};
+ghost use Rattle.aide_report_specs.specs.Report.{is_silent, parts_of, text_of, section_count};
+ghost use Rattle.aide_report_specs.specs.Sections.{sections_of};
 ghost use Rattle.aide_merge.specs.Seen.{AreLimits, seen};
 ghost use Rattle.aide_text.specs.Failures.{Rose};
 ghost use Rattle.aide_text.specs.Overview.{differs, overview_by};

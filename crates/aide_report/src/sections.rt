@@ -7,8 +7,8 @@ ghost use Rattle.aide_merge.specs.code.Merging.{pass_of};
 ghost use Rattle.aide_report.specs.code.GivenDigests.{GaveDigests};
 ghost use Rattle.aide_report.specs.code.Passes.{KeepsPen, Passes, WritesOver};
 ghost use Rattle.aide_text.specs.PenSheet.{on_sheet};
-ghost use Rattle.aide_report.specs.Report.{sections_text};
-ghost use Rattle.aide_report.specs.Sections.{has_entry, is_there, sections_of, section_text};
+ghost use Rattle.aide_report_specs.specs.Report.{sections_text};
+ghost use Rattle.aide_report_specs.specs.Sections.{has_entry, is_there, sections_of, section_text};
 ghost use Rattle.aide_merge.specs.Seen.{AreLimits, seen};
 ghost use Rattle.aide_text.specs.Sheet.{WritesFirst};
 

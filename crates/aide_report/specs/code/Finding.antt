@@ -5,7 +5,7 @@ use Rattle.aide_conf.specs.declared.task.Task.{Task}
 use Rattle.aide_db.specs.Giving.{columns_of_text}
 use Rattle.aide_db.specs.Map.{database_of}
 use Rattle.aide_entry.specs.Skipped.{skipped_in}
-use Rattle.aide_report.specs.Report.{Origin}
+use Rattle.aide_report_specs.specs.Report.{Origin}
 use Rattle.aide_merge.specs.Outcomes.{counts_of}
 use Rattle.aide_report.specs.declared.finding.Finding.{Finding}
 

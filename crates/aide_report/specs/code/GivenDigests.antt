@@ -2,7 +2,7 @@
 use Rattle.std.specs.Prelude.{◌≡◌, ℕ, List, Option}
 use Rattle.sha2.specs.Sha256.{sha256}
 use Rattle.aide_db.specs.declared.side.Side.{Side}
-use Rattle.aide_report.specs.Given.{IsGiven}
+use Rattle.aide_report_specs.specs.Given.{IsGiven}
 use Rattle.aide_merge.specs.code.Digests.{digest_on}
 use Rattle.aide_merge.specs.declared.digests.Digests.{Digests}
 

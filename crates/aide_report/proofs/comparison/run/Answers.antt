@@ -1,7 +1,7 @@
 use Rattle.std.proofs.Common.{◌∙◌, ◌+◌, ◌≤◌, ℕ, ap, refl, sym, arith}
 use Rattle.aide_db.specs.declared.side.Side.TheVariants.{Old, New}
 use Rattle.aide_merge.specs.Asked.{asked}
-use Rattle.aide_report.specs.Report.{section_count}
+use Rattle.aide_report_specs.specs.Report.{section_count}
 use Rattle.aide_merge.specs.Seen.{sink_seen}
 use Rattle.aide_report.proofs.GivenLemmas.{gave_then, one_digest}
 use Rattle.aide_report.proofs.RunRecords.{run_breaks, run_ends, run_stops}

@@ -1,5 +1,5 @@
 use Rattle.aide_text.specs.Layout.{empty_line}
-use Rattle.aide_report.specs.Report.{databases_title}
+use Rattle.aide_report_specs.specs.Report.{databases_title}
 use Rattle.aide_text.proofs.Sheets.{wrote_more}
 use Rattle.aide_report.proofs.databases.put_databases_title.Goals as goal
 

@@ -1,6 +1,6 @@
 use Rattle.std.proofs.Common.{ap, ◌∙◌}
 use Rattle.aide_text.specs.Layout.{path_line}
-use Rattle.aide_report.specs.Report.{origin_lines}
+use Rattle.aide_report_specs.specs.Report.{origin_lines}
 use Rattle.aide_text.proofs.Sheets.{wrote_more, wrote_as}
 use Rattle.aide_report.proofs.databases.put_origin.Goals as goal
 

@@ -1,5 +1,5 @@
 use Rattle.std.proofs.Common.{◌∙◌, sym}
-use Rattle.aide_report.specs.Entries.{attribute_text}
+use Rattle.aide_report_specs.specs.Entries.{attribute_text}
 use Rattle.aide_text.specs.Layout.{side_by_side}
 use Rattle.aide_text.proofs.Sheets.{wrote_as}
 use Rattle.aide_report.proofs.details.put_attribute.Goals as goal

@@ -2,7 +2,7 @@ use Rattle.std.proofs.Common.{arith}
 use Rattle.aide_attr.specs.Set.{has}
 use Rattle.aide_attr.specs.declared.attr.Attr.TheVariants.{Ftype}
 use Rattle.aide_merge.specs.code.ChangeView.{change_of}
-use Rattle.aide_report.specs.Entries.{attributes_text}
+use Rattle.aide_report_specs.specs.Entries.{attributes_text}
 use Rattle.aide_text.specs.PenSheet.{on_sheet}
 use Rattle.aide_report.proofs.EntriesLemmas.{shown_drop, shown_end}
 use Rattle.aide_text.proofs.Sheets.{writing_start, writing_more, writing_done}

@@ -1,7 +1,7 @@
 use Rattle.std.proofs.Common.{drop}
 use Rattle.aide_attr.specs.Set.{has}
 use Rattle.aide_merge.specs.code.ChangeView.{change_of}
-use Rattle.aide_report.specs.Entries.{attributes_text}
+use Rattle.aide_report_specs.specs.Entries.{attributes_text}
 use Rattle.aide_text.specs.PenSheet.{on_sheet}
 use Rattle.aide_text.specs.Sheet.{Writing}
 use Rattle.aide_report.proofs.details.put_attributes.Given as goal

@@ -3,7 +3,7 @@ use Rattle.std.specs.Prelude.{not}
 use Rattle.aide_attr.specs.Attr.{all_attrs}
 use Rattle.aide_attr.specs.Set.{has}
 use Rattle.aide_merge.specs.code.ChangeView.{change_of}
-use Rattle.aide_report.specs.Entries.{entry_details}
+use Rattle.aide_report_specs.specs.Entries.{entry_details}
 use Rattle.aide_merge.specs.Said.{shows_at, shows_any}
 use Rattle.aide_text.specs.Layout.{path_line}
 use Rattle.aide_text.specs.declared.section.Contents.TheVariants.{Detailed}

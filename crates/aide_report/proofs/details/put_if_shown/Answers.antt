@@ -1,5 +1,5 @@
 use Rattle.std.proofs.Common.{rules}
-use Rattle.aide_report.specs.Entries.{shown_text}
+use Rattle.aide_report_specs.specs.Entries.{shown_text}
 use Rattle.aide_text.proofs.Sheets.{wrote_as, wrote_nothing}
 use Rattle.aide_report.proofs.details.put_if_shown.Goals as goal
 

@@ -1,6 +1,6 @@
 use Rattle.std.proofs.Common.{le_refl, refl, rules}
 use Rattle.aide_report.specs.code.Finding.{old_origin, new_origin}
-use Rattle.aide_report.specs.Report.{parts_of, databases_text}
+use Rattle.aide_report_specs.specs.Report.{parts_of, databases_text}
 use Rattle.aide_report.proofs.PassLemmas.{passes_broken, passes_none, passes_same, pen_then}
 use Rattle.aide_report.proofs.AgreementLemmas.{first_then, no_databases}
 use Rattle.aide_text.proofs.Sheets.{wrote_more, part_of_wrote, part_after, part_first, part_whole, some_more, some_of}

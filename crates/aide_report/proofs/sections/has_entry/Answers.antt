@@ -1,5 +1,5 @@
 use Rattle.std.proofs.Common.{ap, sym}
-use Rattle.aide_report.specs.Sections.{has_entry}
+use Rattle.aide_report_specs.specs.Sections.{has_entry}
 use Rattle.aide_report.proofs.sections.has_entry.Goals as goal
 
 pub returns-in-Detailed : goal.returns-in-Detailed

@@ -5,8 +5,8 @@ use Rattle.aide_merge.specs.code.Digests.{AreDigests}
 use Rattle.aide_merge.specs.code.Merging.{pass_of}
 use Rattle.aide_text.specs.PenSheet.{on_sheet}
 use Rattle.aide_merge.specs.Seen.{seen}
-use Rattle.aide_report.specs.Report.{sections_text}
-use Rattle.aide_report.specs.Sections.{is_there, section_text}
+use Rattle.aide_report_specs.specs.Report.{sections_text}
+use Rattle.aide_report_specs.specs.Sections.{is_there, section_text}
 use Rattle.aide_text.specs.Section.{all_sections}
 use Rattle.aide_attr.specs.Level.{reaches}
 use Rattle.aide_attr.specs.declared.level.Level.TheVariants.{DatabaseAttributes}

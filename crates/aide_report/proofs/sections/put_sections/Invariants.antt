@@ -9,7 +9,7 @@ use Rattle.aide_report.specs.code.GivenDigests.{GaveDigests}
 use Rattle.aide_report.specs.code.Passes.{Passes}
 use Rattle.aide_text.specs.PenSheet.{on_sheet}
 use Rattle.aide_merge.specs.Seen.{seen}
-use Rattle.aide_report.specs.Sections.{is_there, section_text}
+use Rattle.aide_report_specs.specs.Sections.{is_there, section_text}
 use Rattle.aide_text.specs.Section.{all_sections}
 use Rattle.aide_attr.specs.Level.{reaches}
 use Rattle.aide_text.specs.Sheet.{Writing, WritesFirst, WritesSome}

@@ -1,6 +1,6 @@
 use Rattle.std.proofs.Common.{refl, rules}
 use Rattle.aide_merge.specs.code.Merging.{pass_of}
-use Rattle.aide_report.specs.Sections.{section_text, entries_text}
+use Rattle.aide_report_specs.specs.Sections.{section_text, entries_text}
 use Rattle.aide_text.specs.Section.{contents_of}
 use Rattle.aide_report.proofs.EntriesLemmas.{each_entry}
 use Rattle.aide_report.proofs.PassLemmas.{passes_broken, passes_none, pen_then, writes_behind}
