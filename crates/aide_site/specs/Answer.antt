@@ -1,0 +1,138 @@
+-- The answer of a session: its output, its error lines and its status. The arguments and the files determine it, and
+-- for a configuration that is only checked, the text to write about it.
+use Rattle.std.specs.Prelude.{◌≡◌, ◌⊎◌, ℕ, ◌^◌, Bool, true, false, List, [], Ok, Err, Result}
+use Rattle.std.specs.Prelude.{Option, Some, None}
+use Rattle.aide_conf.specs.Settings.{Configured}
+use Rattle.aide_conf.specs.ReadResult.{ReadsAs}
+use Rattle.aide_conf.specs.declared.fault.ConfFault.{ConfFault}
+use Rattle.aide_conf.specs.declared.options.Options.{Options}
+use Rattle.aide_conf.specs.declared.task.Need.{Need}
+use Rattle.aide_conf.specs.declared.task.Need.TheVariants.{Compare, Check}
+use Rattle.aide_db.specs.declared.fault.DbFault.{DbFault}
+use Rattle.aide_db.specs.Database.{IsSound}
+use Rattle.aide_db.specs.declared.limits.Limits.{Limits}
+use Rattle.aide_db.specs.declared.side.Side.TheVariants.{Old, New}
+use Rattle.aide_merge.specs.Asked.{Asked}
+use Rattle.aide_merge.specs.RightAnswer.{Report, IsFirstFaultOf}
+use Rattle.aide_report_specs.specs.Runs.{Runs}
+use Rattle.aide_merge.specs.Outcomes.{status_of}
+use Rattle.aide_site.specs.Files.{Files, is_too_large}
+use Rattle.aide_words.specs.Job.{JobText}
+use Rattle.aide_site.specs.Lines.{unread_line, too_large_line, conf_line, open_line}
+use Rattle.aide_site.specs.Lines.{database_line, outcome_lines}
+use Rattle.aide_site.specs.Says.{Says, usage_by}
+
+-- what a session writes to standard output and to standard error, and its status
+pub record Answer : Type 0 where
+  pub output : List ℕ
+  pub errors : List ℕ
+  pub status : ℕ
+
+-- the paths that the arguments and the configuration name
+pub record Named : Type 0 where
+  pub config : List ℕ
+  pub old_path : List ℕ
+  pub new_path : List ℕ
+
+-- what a comparison is asked for, by its options and the two paths
+abbrev pub asked_by : Options → Named → Asked
+asked_by options named = record {
+  options = options;
+  old_path = named.old_path;
+  new_path = named.new_path;
+}
+
+-- no output, only lines on standard error, and a status
+abbrev pub refused : List ℕ → ℕ → Answer
+refused lines status = record { output = []; errors = lines; status = status }
+
+-- the answer for a configuration without a fault that is only checked, if nothing is written about it
+abbrev pub checked : Answer
+checked = record { output = []; errors = []; status = 0 }
+
+-- the same, by what is to be written of a configuration: the text is, if there is one
+abbrev pub checked_by : Says → Configured → Answer
+checked_by None s = checked
+checked_by (Some says) s = record { output = says s; errors = []; status = 0 }
+
+-- a line of a database has at most 1,048,576 bytes, and a database at most 2 ^ 40
+abbrev pub limits : Limits
+limits = record { line = 1048576; bytes = 2 ^ 40 }
+
+-- The answer of a comparison of two databases: the report, or the first fault of a database.
+abbrev pub answer_of_run : Result Report DbFault → Answer
+answer_of_run (Ok report) = record {
+  output = report.text;
+  errors = outcome_lines report.outcome;
+  status = status_of report.outcome.added report.outcome.removed report.outcome.changed;
+}
+answer_of_run (Err fault) = refused (database_line fault) 24
+
+-- The answer of a comparison, by what is at the paths of the two databases. If there is no old one,
+-- the answer is that the old one was not opened. If only the new one is missing, there are two
+-- cases: if the old one is sound, the answer is that the new one was not opened, otherwise it is
+-- the first fault of the old one. If both are there, it is the answer of their comparison.
+abbrev pub IsCompared : Options → Named → Option (List ℕ) → Option (List ℕ) → Answer → Type 0
+IsCompared options named None new a = a ≡ refused (open_line Old named.old_path) 18
+IsCompared options named (Some old) None a =
+    (IsSound limits old × (a ≡ refused (open_line New named.new_path) 18))
+    ⊎ ((fault : DbFault) × IsFirstFaultOf limits Old old fault
+    × (a ≡ refused (database_line fault) 24))
+IsCompared options named (Some old) (Some new) a = (run : Result Report DbFault)
+    × Runs limits (asked_by options named) old new run × (a ≡ answer_of_run run)
+
+-- The comparison of what is at the two paths that the settings name. At each path there is a
+-- database or no file.
+pub record Compares (files : Files) (s : Configured) (named : Named) (a : Answer) : Type 0 where
+  pub old_is : s.old_path ≡ Some named.old_path
+  pub new_is : s.new_path ≡ Some named.new_path
+  pub old_file : Option (List ℕ)
+  pub new_file : Option (List ℕ)
+  pub old_told : files named.old_path ≡ Some old_file
+  pub new_told : files named.new_path ≡ Some new_file
+  pub then_is : IsCompared s.options named old_file new_file a
+
+-- what a configuration is read for: a comparison, or only a check
+abbrev pub need_of : Bool → Need
+need_of true = Compare
+need_of false = Check
+
+-- the answer, by whether the configuration reads as settings or has a fault
+abbrev pub IsReadAnswerBy : Says → Files → Bool → Result Configured ConfFault → Named → Answer
+    → Type 0
+IsReadAnswerBy says files true (Ok s) named a = Compares files s named a
+IsReadAnswerBy says files false (Ok s) named a = a ≡ checked_by says s
+IsReadAnswerBy says files compare (Err fault) named a = a ≡ refused (conf_line fault) 17
+
+-- the answer if the configuration has this text
+pub record IsTextAnswerBy (says : Says) (files : Files) (job : JobText) (text : List ℕ)
+    (named : Named) (a : Answer) : Type 0 where
+  pub read : Result Configured ConfFault
+  pub reads : ReadsAs (need_of job.compare) job.before text job.after read
+  pub then_is : IsReadAnswerBy says files job.compare read named a
+
+-- the answer, by whether the configuration is too large
+abbrev pub IsSizedAnswerBy : Says → Files → JobText → Bool → List ℕ → Named → Answer → Type 0
+IsSizedAnswerBy says files job true text named a = a ≡ refused too_large_line 17
+IsSizedAnswerBy says files job false text named a = IsTextAnswerBy says files job text named a
+
+-- the answer, by what is at the configuration's path
+abbrev pub IsFileAnswerBy : Says → Files → JobText → Option (List ℕ) → Named → Answer → Type 0
+IsFileAnswerBy says files job None named a = a ≡ refused (unread_line job.config) 18
+IsFileAnswerBy says files job (Some text) named a =
+    IsSizedAnswerBy says files job (is_too_large text) text named a
+
+-- the answer to a job if it is known what is at its configuration's path
+pub record IsJobAnswerBy (says : Says) (files : Files) (job : JobText) (named : Named)
+    (a : Answer) : Type 0 where
+  pub config_is : named.config ≡ job.config
+  pub file : Option (List ℕ)
+  pub known : files job.config ≡ Some file
+  pub then_is : IsFileAnswerBy says files job file named a
+
+-- The answer to what the arguments ask for, over these files. It is the first fault of the
+-- arguments, of the configuration or of a database, or else what the job asks for. A named file that
+-- is not there counts as a fault. `named` contains the paths that are named on the way.
+abbrev pub IsAnswerBy : Says → Files → Option JobText → Named → Answer → Type 0
+IsAnswerBy says files None named a = a ≡ refused (usage_by says) 15
+IsAnswerBy says files (Some job) named a = IsJobAnswerBy says files job named a

@@ -1,0 +1,15 @@
+pub mod Answer
+pub mod Closing
+pub mod Ends
+pub mod Existence
+pub mod Files
+pub mod Held
+pub mod Lines
+pub mod Page
+pub mod Pointing
+pub mod Put
+pub mod Reels
+pub mod Says
+pub mod Session
+pub mod Sites
+pub mod code

@@ -1,0 +1,4 @@
+-- Definitions for steps inside the code. No clause of a public call of a program cites them.
+pub mod Config
+pub mod JobSettings
+pub mod Parts
