@@ -1,5 +1,0 @@
-use Rattle.std.proofs.Common.{rules}
-use Rattle.aide_session.proofs.file_reel.FileReelReel.read.Goals as goal
-
-pub returns-in-Text-clause-end : goal.returns-in-Text-clause-end
-returns-in-Text-clause-end c = search rules

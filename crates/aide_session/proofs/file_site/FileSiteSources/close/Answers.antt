@@ -1,5 +1,0 @@
-use Rattle.std.proofs.Common.{rules}
-use Rattle.aide_session.proofs.file_site.FileSiteSources.close.Goals as goal
-
-pub returns-in-File-clause-adds : goal.returns-in-File-clause-adds
-returns-in-File-clause-adds c = search rules

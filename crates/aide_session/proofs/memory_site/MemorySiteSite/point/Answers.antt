@@ -1,7 +1,0 @@
-use Rattle.std.proofs.Common.{ap}
-use Rattle.std.proofs.lemmas.Result.{on_ok_weaker}
-use Rattle.aide_session.specs.Sites.{aim_path}
-use Rattle.aide_session.proofs.memory_site.MemorySiteSite.point.Goals as goal
-
-pub returns-clause-path : goal.returns-clause-path
-returns-clause-path c = on_ok_weaker c.point.result (ap aim_path) c.point.ensures.ok

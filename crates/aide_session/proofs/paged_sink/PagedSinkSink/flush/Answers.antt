@@ -1,8 +1,0 @@
-use Rattle.std.proofs.Common.{rules}
-use Rattle.aide_session.proofs.paged_sink.PagedSinkSink.flush.Goals as goal
-
-pub returns-clause-flushed : goal.returns-clause-flushed
-returns-clause-flushed c = search rules
-
-pub returns-clause-flushes : goal.returns-clause-flushes
-returns-clause-flushes c = search rules

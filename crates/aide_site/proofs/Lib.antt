@@ -1,0 +1,11 @@
+pub mod Endings
+pub mod SiteLemmas
+pub mod Readings
+pub mod AnswerSteps
+pub mod PutLemmas
+pub mod Closings
+pub mod Comparisons
+pub mod Existence
+pub mod Pages
+pub mod HeldLemmas
+pub mod JobSettings
