@@ -1,4 +1,0 @@
-use Rattle.aide_session.proofs.program.session.Goals as goal
-
-pub returns : goal.returns
-returns g c = record { session = c.session_on.ensures.session }

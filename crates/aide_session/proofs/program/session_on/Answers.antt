@@ -1,5 +1,0 @@
-use Rattle.std.proofs.Common.{rules}
-use Rattle.aide_session.proofs.program.session_on.Goals as goal
-
-pub returns-clause-session : goal.returns-clause-session
-returns-clause-session c = search rules
