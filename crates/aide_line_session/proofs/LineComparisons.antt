@@ -1,0 +1,326 @@
+-- A comparison by lines ends a session with its answer, or is kept from it.
+use Rattle.std.proofs.Common.{◌≡◌, ◌∙◌, ℕ, ◌≤◌, List, [], Option, Some, None, refl, sym, ap, false, Ok, Err, inl, inr}
+use Rattle.std.proofs.Common.{rules}
+use Rattle.std.specs.Prelude.{Result, IsSome}
+use Rattle.std.specs.Io.KnownBytes.{Appends}
+use Rattle.std.proofs.Math.Path.{subst}
+use Rattle.std.proofs.lemmas.List.{append-nil}
+use Rattle.aide_conf.specs.Settings.{Configured}
+use Rattle.aide_db.proofs.Laws.{no_sound_text_has_a_fault}
+use Rattle.aide_db.specs.Database.{IsSound}
+use Rattle.aide_db.specs.Side.{by_side}
+use Rattle.aide_db.specs.declared.fault.DbFault.{DbFault}
+use Rattle.aide_db.specs.declared.side.Side.{Side}
+use Rattle.aide_db.specs.declared.side.Side.TheVariants.{Old, New}
+use Rattle.aide_entry.specs.Cause.{is_memory}
+use Rattle.aide_entry.specs.declared.fault_kind.DbFaultKind.{DbFaultKind}
+use Rattle.aide_entry.specs.declared.fault_kind.DbFaultKind.TheVariants as db
+use Rattle.aide_merge.specs.Asked.{Asked}
+use Rattle.aide_text.specs.Failures.{Rose}
+use Rattle.aide_merge.specs.FaultStatus.{fault_status, kind_status}
+use Rattle.aide_merge.specs.Outcomes.{outcome_over}
+use Rattle.aide_merge.specs.RightAnswer.{Causes, IsHindered, Report, RunsBy, RunsOverBy, run_answer}
+use Rattle.aide_text.specs.Sent.{SendsPart}
+use Rattle.aide_merge.specs.declared.outcome.Outcome.{Outcome}
+use Rattle.aide_merge.specs.declared.run_fault.RunFault.{RunFault}
+use Rattle.aide_merge.specs.declared.run_fault.RunFault.TheVariants.{Open, Database, Changed, Write}
+use Rattle.aide_site.specs.Answer.{Named, asked_by, limits}
+use Rattle.aide_line_session.specs.LineAnswer.{ComparesForLines}
+use Rattle.aide_line_session.specs.LineAnswer.{BeginsOverTexts, LineAnswer, HasWritten, LineOutput, HasBegun, all_lines, line_answer}
+use Rattle.aide_line_session.specs.LineAnswer.{no_line}
+use Rattle.aide_line_session.specs.LineAnswer.{lines_at_fault, start_of_lines, trusted_of}
+use Rattle.aide_line_session.specs.LineEnds.{PairFailure, PairFailureCause, LineView, ComparesPairs}
+use Rattle.aide_line_session.specs.LineEnds.{EndsWithin, MeansOfPair, pair_failure_line}
+use Rattle.aide_line_session.specs.LineEnds.{compared_line, compared_status, of_compared}
+use Rattle.aide_line_session.specs.LineEnds.{WholeLines, trusted_unopened, trusted_unread}
+use Rattle.aide_site.specs.Closing.{HasText}
+use Rattle.aide_site.specs.Ends.{HasFailed, Puts, Sinks, unopened, unread, unwritten}
+use Rattle.aide_site.specs.Files.{Files}
+use Rattle.aide_site.specs.Lines.{kind_line, outcome_lines, run_fault_line}
+use Rattle.aide_line_session.specs.TrustedLines.{pair_fault_line, pair_fault_status, trusted_fault_line, trusted_kind_line}
+use Rattle.aide_site.proofs.Endings.{never_true, rose_later, true_is_not_false}
+use Rattle.aide_site.proofs.PutLemmas.{put_as}
+use Rattle.aide_line_run.specs.BeforeFault.{AreBeforeFaults, FourTexts}
+use Rattle.aide_line_run.specs.Lines.{lines_of_texts}
+use Rattle.aide_line_run.specs.RunEnds.{AreAllSound, CutsFronts, CutsLines, RunsLines, SendsWholeOf, StopsForPair, answer_by}
+use Rattle.aide_line_run.specs.RunEnds.{changes_between}
+use Rattle.aide_line_run.specs.Listed.{ListRead, leaves_between}
+use Rattle.aide_line_run.proofs.WrittenLaws.{begins_what_is_written, begins_with_nothing}
+use Rattle.aide_line_run.specs.Pairs.{OfEach}
+use Rattle.aide_line_run.specs.declared.pair_fault.PairFault.{PairFault}
+use Rattle.aide_line_run.specs.declared.pair_fault.PairFault.TheVariants.{Compared, Trusted}
+use Rattle.aide_words.specs.LineJob.{LineJobText}
+
+-- ---- what has gone out
+
+-- nothing is a beginning of anything
+pub none_starts : (sent : LineOutput) (before after : Option (List ℕ)) → Appends before after [] → HasBegun sent before after
+none_starts (all_lines text) before after none = record { front = []; rest = text; whole = refl; bytes = none }
+none_starts (start_of_lines list asked trusted texts) before after none = record {
+  cut = begins_with_nothing (leaves_between list texts.old texts.new) asked trusted (changes_between texts.old texts.new)
+      (changes_between texts.trusted_old texts.trusted_new) before after none;
+  early = λ fronts are. record { front = []; rest = _; whole = refl; bytes = none };
+}
+
+-- what has gone out is a beginning of itself
+goes_then_starts : (sent : LineOutput) (before after : Option (List ℕ)) → HasWritten sent before after
+    → HasBegun sent before after
+goes_then_starts (all_lines text) before after all =
+    record { front = text; rest = []; whole = sym (append-nil text); bytes = all }
+goes_then_starts (start_of_lines list asked trusted texts) before after part = part
+
+-- ---- a run that is kept from its answer
+
+-- a fault that hinders, and is no want of memory, is a failed read
+read_failed : (kind : DbFaultKind) (rose : Type 0) → is_memory kind ≡ false → Causes kind rose ⊥ → (kind ≡ db.Read) × rose
+read_failed db.Read rose fed cause = (refl, cause)
+read_failed db.Memory rose fed cause = absurd (true_is_not_false fed)
+read_failed kind rose fed cause = absurd cause
+
+-- what is there has a text
+there : (known : Option (Option (List ℕ))) (file : Option (List ℕ)) → known ≡ Some file → IsSome file
+    → ((text : List ℕ) → known ≡ Some (Some text) → ⊥) → ⊥
+there known None told some none = cc
+there known (Some text) told some none = none text told
+
+there_side : (files : Files) (pair : Named) (old new : Option (List ℕ)) (side : Side) → files pair.old_path ≡ Some old
+    → files pair.new_path ≡ Some new
+    → IsSome (by_side old new side) → ((text : List ℕ) → HasText files pair side text → ⊥) → ⊥
+there_side files pair old new Old told_old told_new some none = there (files pair.old_path) old told_old some none
+there_side files pair old new New told_old told_new some none = there (files pair.new_path) new told_new some none
+
+module _ (a : LineAnswer) (named trusted : Named) (v : LineView) (before count : ℕ) (more : before ≤ count)
+    (sent : HasBegun a.output v.sinks.out_old v.sinks.out_new) where
+  abbrev Ended : ℕ → Type 0
+  Ended status = EndsWithin a named trusted status v.sinks (HasFailed v.is_reliable before v.site_after)
+      (HasFailed v.trusted_reliable v.trusted_before v.trusted_after) (Rose v.out_before v.out_after)
+
+  broken : (status : ℕ) (failure : PairFailure) → status ≡ 18
+      → PairFailureCause failure (HasFailed v.is_reliable before v.site_after)
+      (HasFailed v.trusted_reliable v.trusted_before v.trusted_after) (Rose v.out_before v.out_after)
+      → Puts (pair_failure_line named trusted failure) v.sinks
+      → Ended status
+  broken status failure is cause put =
+      inr (inr (record { status_is = is; output = sent; failure = failure; cause = cause; put = put }))
+
+  compared_hindered : (fault : RunFault) (old new : Option (List ℕ)) (status : ℕ) → v.files named.old_path ≡ Some old
+      → v.files named.new_path ≡ Some new → status ≡ fault_status fault
+      → Puts (run_fault_line named.old_path named.new_path fault) v.sinks
+      → MeansOfPair v.files named v.is_reliable v.course (Rose count v.site_after) (Rose v.out_before v.out_after) fault
+      → IsHindered old new (Rose count v.site_after) (Rose v.out_before v.out_after) fault
+      → Ended status
+  compared_hindered (Open side) old new status told_old told_new is put means hindered =
+      broken status (of_compared (unopened side)) is (
+        never_true v.is_reliable (λ reliable. there_side v.files named old new side told_old told_new hindered.0 (means.reliable reliable)),
+        rose_later before count v.site_after more hindered.1,
+      ) put
+  compared_hindered (Database fault) old new status told_old told_new is put means hindered =
+      let failed = read_failed fault.kind (Rose count v.site_after) means.cause.2 hindered.1 in
+      broken status (of_compared (unread fault)) (is ∙ ap kind_status failed.0) (
+        failed.0,
+        (
+          never_true v.is_reliable (λ reliable. means.reliable reliable failed.0),
+          rose_later before count v.site_after more failed.1,
+        ),
+      )
+      (put_as _ _ (ap (kind_line fault) failed.0) put)
+  compared_hindered (Changed side) old new status told_old told_new is put means hindered = absurd hindered
+  compared_hindered (Write written) old new status told_old told_new is put means hindered =
+      broken status (of_compared unwritten) is hindered put
+
+  trusted_hindered : (fault : RunFault) (old new : Option (List ℕ)) (status : ℕ) → v.trusted_files trusted.old_path ≡ Some old
+      → v.trusted_files trusted.new_path ≡ Some new → status ≡ fault_status fault
+      → Puts (trusted_fault_line trusted.old_path trusted.new_path fault) v.sinks
+      → MeansOfPair v.trusted_files trusted v.trusted_reliable v.trusted_course (Rose v.trusted_before v.trusted_after) ⊥ fault
+      → IsHindered old new (Rose v.trusted_before v.trusted_after) ⊥ fault
+      → Ended status
+  trusted_hindered (Open side) old new status told_old told_new is put means hindered =
+      broken status (trusted_unopened side) is (
+        never_true v.trusted_reliable (λ reliable. there_side v.trusted_files trusted old new side told_old told_new hindered.0
+            (means.reliable reliable)),
+        hindered.1,
+      ) put
+  trusted_hindered (Database fault) old new status told_old told_new is put means hindered =
+      let failed = read_failed fault.kind (Rose v.trusted_before v.trusted_after) means.cause.2 hindered.1 in
+      broken status (trusted_unread fault) (is ∙ ap kind_status failed.0)
+      (failed.0, (never_true v.trusted_reliable (λ reliable. means.reliable reliable failed.0), failed.1))
+      (put_as _ _ (ap (trusted_kind_line fault) failed.0) put)
+  trusted_hindered (Changed side) old new status told_old told_new is put means hindered = absurd hindered
+  trusted_hindered (Write written) old new status told_old told_new is put means hindered = absurd hindered
+
+  hindered_ends : (fault : PairFault) (old new trusted_old trusted_new : Option (List ℕ)) (status : ℕ)
+      → v.files named.old_path ≡ Some old → v.files named.new_path ≡ Some new
+      → v.trusted_files trusted.old_path ≡ Some trusted_old → v.trusted_files trusted.new_path ≡ Some trusted_new
+      → status ≡ pair_fault_status fault
+      → Puts (pair_fault_line named.old_path named.new_path trusted.old_path trusted.new_path fault) v.sinks
+      → OfEach (MeansOfPair v.files named v.is_reliable v.course (Rose count v.site_after) (Rose v.out_before v.out_after))
+      (MeansOfPair v.trusted_files trusted v.trusted_reliable v.trusted_course (Rose v.trusted_before v.trusted_after) ⊥) fault
+      → OfEach (IsHindered old new (Rose count v.site_after) (Rose v.out_before v.out_after))
+      (IsHindered trusted_old trusted_new (Rose v.trusted_before v.trusted_after) ⊥) fault
+      → Ended status
+  hindered_ends (Compared fault) old new trusted_old trusted_new status told_old told_new told_trusted_old told_trusted_new is put means
+      hindered =
+      compared_hindered fault old new status told_old told_new is put means hindered
+  hindered_ends (Trusted fault) old new trusted_old trusted_new status told_old told_new told_trusted_old told_trusted_new is put means
+      hindered =
+      trusted_hindered fault trusted_old trusted_new status told_trusted_old told_trusted_new is put means hindered
+
+-- ---- what has gone out at a fault
+
+-- a beginning of what is to be written has gone out, or this if the answer is a fault
+abbrev SendsFront : LineOutput → Result Report PairFault → (before after : Option (List ℕ)) → Type 0
+SendsFront sent (Ok report) before after = SendsPart report.text before after
+SendsFront sent (Err fault) before after = HasWritten sent before after
+
+none_front : (r : Result Report PairFault) (before after : Option (List ℕ)) → Appends before after [] → SendsFront no_line r before after
+none_front (Ok report) before after none = record { front = []; rest = report.text; whole = refl; bytes = none }
+none_front (Err fault) before after none = none
+
+ok_is_no_fault : (outcome : Outcome) (fault : RunFault) → Ok outcome ≡ Err fault → ⊥
+ok_is_no_fault outcome fault e = cc
+
+-- two texts of which the answer is an outcome are both sound
+sound_run : (over : List ℕ → List ℕ → Outcome) (old new : List ℕ) (outcome : Outcome) (run : Result Outcome DbFault)
+    → RunsBy limits over old new run → Ok outcome ≡ run_answer run → IsSound limits old × IsSound limits new
+sound_run over old new outcome (Ok other) is same = (is.0, is.1)
+sound_run over old new outcome (Err fault) is same = absurd (ok_is_no_fault outcome (Database fault) same)
+
+sound_pair : (over : List ℕ → List ℕ → Outcome) (old new : List ℕ) (outcome : Outcome)
+    → RunsOverBy limits over (Some old) (Some new) (Ok outcome) → IsSound limits old × IsSound limits new
+sound_pair over old new outcome runs = sound_run over old new outcome runs.0 runs.1 runs.2
+
+-- two texts of which the answer is a fault are not
+unsound_run : (over : List ℕ → List ℕ → Outcome) (old new : List ℕ) (fault : RunFault) (run : Result Outcome DbFault)
+    → RunsBy limits over old new run → Err fault ≡ run_answer run → IsSound limits old → IsSound limits new → ⊥
+unsound_run over old new fault (Ok other) is same sound_old sound_new = absurd (ok_is_no_fault other fault (sym same))
+unsound_run over old new fault (Err first) is same sound_old sound_new = elim is [
+  | inl of_old ↦ no_sound_text_has_a_fault limits old first.line first.kind of_old.1 sound_old
+  | inr of_new ↦ no_sound_text_has_a_fault limits new first.line first.kind of_new.1.1 sound_new
+]
+
+unsound_pair : (over : List ℕ → List ℕ → Outcome) (old new : List ℕ) (fault : RunFault)
+    → RunsOverBy limits over (Some old) (Some new) (Err fault) → IsSound limits old → IsSound limits new → ⊥
+unsound_pair over old new fault runs = unsound_run over old new fault runs.0 runs.1 runs.2
+
+module _ (list : ListRead) (wish trusted_wish : Asked) (texts : FourTexts) (before after : Option (List ℕ)) where
+  abbrev AllSound : Type 0
+  AllSound = AreAllSound limits texts.old texts.new texts.trusted_old texts.trusted_new
+
+  abbrev all_texts : Report
+  all_texts = lines_of_texts list wish trusted_wish texts.old texts.new texts.trusted_old texts.trusted_new
+
+  abbrev Cut : PairFault → Type 0
+  Cut fault = CutsLines limits list wish trusted_wish texts.old texts.new texts.trusted_old texts.trusted_new before after fault
+
+  abbrev Early : PairFault → Type 0
+  Early fault = (fronts : FourTexts) → AreBeforeFaults limits texts fronts
+      → CutsFronts limits list wish trusted_wish texts fronts before after fault
+
+  sound_cut : (fault : PairFault) → AllSound → Cut fault → SendsPart all_texts.text before after
+  sound_cut (Compared (Write written)) sound cut = cut.0 sound
+  sound_cut fault sound cut =
+      begins_what_is_written limits list wish trusted_wish texts.old texts.new texts.trusted_old texts.trusted_new sound before after cut
+
+  unsound_cut : (fault : PairFault) → (AllSound → ⊥) → Cut fault → Early fault
+      → BeginsOverTexts list wish trusted_wish texts before after
+  unsound_cut (Compared (Write written)) unsound cut early =
+      record { cut = cut.1 unsound; early = λ fronts are. early fronts are unsound }
+  unsound_cut fault unsound cut early = record { cut = cut; early = early }
+
+  front_by : (compared trusted : Result Outcome RunFault) (r : Result Report PairFault) (fault : PairFault)
+      → RunsOverBy limits (outcome_over wish.options) (Some texts.old) (Some texts.new) compared
+      → RunsOverBy limits (outcome_over trusted_wish.options) (Some texts.trusted_old) (Some texts.trusted_new) trusted
+      → answer_by compared trusted (Some all_texts) r → Cut fault → Early fault
+      → SendsFront (start_of_lines list wish trusted_wish texts) r before after
+  front_by (Err first) trusted r fault runs trusted_runs is cut early =
+      subst (λ (x : Result Report PairFault). SendsFront (start_of_lines list wish trusted_wish texts) x before after) (sym is)
+      (unsound_cut fault (λ sound. unsound_pair (outcome_over wish.options) texts.old texts.new first runs sound.of_old sound.of_new)
+      cut early)
+  front_by (Ok outcome) (Err first) r fault runs trusted_runs is cut early =
+      subst (λ (x : Result Report PairFault). SendsFront (start_of_lines list wish trusted_wish texts) x before after) (sym is)
+      (unsound_cut fault (λ sound. unsound_pair (outcome_over trusted_wish.options) texts.trusted_old texts.trusted_new first
+      trusted_runs sound.of_trusted_old sound.of_trusted_new) cut early)
+  front_by (Ok outcome) (Ok other) r fault runs trusted_runs is cut early = search (rules, sound_pair, sound_cut)
+
+-- ---- a comparison and its answer
+
+module _ (sent : LineOutput) (named trusted : Named) (s : Sinks) where
+  well : (r : Result Report PairFault) (outcome : Outcome) (status : ℕ) → status ≡ compared_status (Ok outcome)
+      → Puts (outcome_lines outcome) s → SendsWholeOf r outcome s.out_old s.out_new
+      → WholeLines (line_answer sent named trusted r) status s
+  well (Ok report) outcome status is put all = search rules
+  well (Err fault) outcome status is put all = absurd all
+
+  front : (r : Result Report PairFault) → SendsFront sent r s.out_old s.out_new
+      → HasBegun (line_answer sent named trusted r).output s.out_old s.out_new
+  front (Ok report) part = part
+  front (Err fault) part = goes_then_starts sent s.out_old s.out_new part
+
+  right : (r : Result Report PairFault) (fault : PairFault) (status : ℕ) → status ≡ pair_fault_status fault
+      → Puts (pair_fault_line named.old_path named.new_path trusted.old_path trusted.new_path fault) s
+      → SendsFront sent r s.out_old s.out_new → r ≡ Err fault
+      → WholeLines (line_answer sent named trusted r) status s
+  right r fault status is put part same = search rules
+
+  -- a run stops for the fault that is the answer, or for one that hindered it
+  by_stop : (r : Result Report PairFault) (hindered : PairFault → Type 0) (fault : PairFault) (P : Type 0)
+      → (r ≡ Err fault → P) → (hindered fault → P) → StopsForPair r hindered fault → P
+  by_stop (Ok report) hindered fault P f g stops = g stops
+  by_stop (Err other) hindered fault P f g stops = elim stops [ inl is ↦ f (ap (λ (x : PairFault). Err x) (sym is)) | inr h ↦ g h ]
+
+-- how a session ends, by its answer
+abbrev pub EndsFor : LineAnswer → (named trusted : Named) → (status before : ℕ) → LineView → Type 0
+EndsFor a named trusted status before v = EndsWithin a named trusted status v.sinks (HasFailed v.is_reliable before v.site_after)
+    (HasFailed v.trusted_reliable v.trusted_before v.trusted_after) (Rose v.out_before v.out_after)
+
+module _ (job : LineJobText) (list : ListRead) (status before count : ℕ) (v : LineView) (s : Configured) (named : Named)
+    (more : before ≤ count) (a : LineAnswer) (is : ComparesForLines v.files v.trusted_files job list s named a) where
+  abbrev sent : LineOutput
+  sent = lines_at_fault list (asked_by s.options named) (asked_by s.options (trusted_of job)) is.old_file is.new_file is.trusted_old_file
+      is.trusted_new_file
+
+  -- at a fault of four files
+  front_of : (fault : PairFault) (old new trusted_old trusted_new : Option (List ℕ)) (r : Result Report PairFault)
+      → ComparesPairs list named (trusted_of job) s.options (Err fault) (Rose count v.site_after) v
+      → v.files named.old_path ≡ Some old → v.files named.new_path ≡ Some new
+      → v.trusted_files job.trusted_old ≡ Some trusted_old → v.trusted_files job.trusted_new ≡ Some trusted_new
+      → RunsLines limits list (asked_by s.options named) (asked_by s.options (trusted_of job)) old new trusted_old trusted_new r
+      → SendsFront (lines_at_fault list (asked_by s.options named) (asked_by s.options (trusted_of job)) old new trusted_old trusted_new) r
+      v.sinks.out_old v.sinks.out_new
+  front_of fault None new trusted_old trusted_new r compares is_old is_new is_trusted_old is_trusted_new runs =
+      none_front r v.sinks.out_old v.sinks.out_new (compares.missing Old is_old)
+  front_of fault (Some old) None trusted_old trusted_new r compares is_old is_new is_trusted_old is_trusted_new runs =
+      none_front r v.sinks.out_old v.sinks.out_new (compares.missing New is_new)
+  front_of fault (Some old) (Some new) None trusted_new r compares is_old is_new is_trusted_old is_trusted_new runs =
+      none_front r v.sinks.out_old v.sinks.out_new (compares.trusted_missing Old is_trusted_old)
+  front_of fault (Some old) (Some new) (Some trusted_old) None r compares is_old is_new is_trusted_old is_trusted_new runs =
+      none_front r v.sinks.out_old v.sinks.out_new (compares.trusted_missing New is_trusted_new)
+  front_of fault (Some old) (Some new) (Some trusted_old) (Some trusted_new) r compares is_old is_new is_trusted_old is_trusted_new runs =
+      let texts : FourTexts = record { old = old; new = new; trusted_old = trusted_old; trusted_new = trusted_new } in
+      front_by list (asked_by s.options named) (asked_by s.options (trusted_of job)) texts v.sinks.out_old v.sinks.out_new
+      runs.compared runs.trusted r fault runs.compared_runs runs.trusted_runs runs.answer
+      (compares.cut old new trusted_old trusted_new is_old is_new is_trusted_old is_trusted_new)
+      (λ fronts are. compares.early texts fronts is_old is_new is_trusted_old is_trusted_new are)
+
+  pub compared_ends : (result : Result Outcome PairFault)
+      → ComparesPairs list named (trusted_of job) s.options result (Rose count v.site_after) v
+      → status ≡ compared_status result → Puts (compared_line named (trusted_of job) result) v.sinks
+      → EndsFor (line_answer sent named (trusted_of job) is.run) named (trusted_of job) status before v
+  compared_ends (Ok outcome) compares status_is put =
+      inl (well sent named (trusted_of job) v.sinks is.run outcome status status_is put
+      (compares.over is.old_file is.new_file is.trusted_old_file is.trusted_new_file is.old_told is.new_told is.trusted_old_told
+      is.trusted_new_told is.run is.runs))
+  compared_ends (Err fault) compares status_is put =
+      let stops = compares.over is.old_file is.new_file is.trusted_old_file is.trusted_new_file is.old_told is.new_told
+      is.trusted_old_told is.trusted_new_told is.run is.runs in
+      let part = front_of fault is.old_file is.new_file is.trusted_old_file is.trusted_new_file is.run compares is.old_told is.new_told
+      is.trusted_old_told is.trusted_new_told is.runs in
+      by_stop sent named (trusted_of job) v.sinks is.run
+      (OfEach (IsHindered is.old_file is.new_file (Rose count v.site_after) (Rose v.out_before v.out_after))
+      (IsHindered is.trusted_old_file is.trusted_new_file (Rose v.trusted_before v.trusted_after) ⊥)) fault
+      (EndsFor (line_answer sent named (trusted_of job) is.run) named (trusted_of job) status before v)
+      (λ same. inl (right sent named (trusted_of job) v.sinks is.run fault status status_is put part same))
+      (λ hindered. hindered_ends (line_answer sent named (trusted_of job) is.run) named (trusted_of job) v before count more
+      (front sent named (trusted_of job) v.sinks is.run part) fault is.old_file is.new_file is.trusted_old_file is.trusted_new_file status
+      is.old_told is.new_told is.trusted_old_told is.trusted_new_told status_is put compares.fault hindered)
+      stops

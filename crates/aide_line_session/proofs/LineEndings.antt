@@ -1,0 +1,259 @@
+-- A session of lines ends with its answer, or is kept from it.
+use Rattle.std.proofs.Common.{◌≡◌, ◌∙◌, ℕ, ◌≤◌, List, Option, Some, None, sym, ap, Bool, false, Ok, Err, inl, inr, ◌⊎◌}
+use Rattle.std.proofs.Common.{arith, rules}
+use Rattle.std.specs.Prelude.{Result, max}
+use Rattle.std.specs.Io.KnownBytes.{Keeps}
+use Rattle.std.proofs.Math.Path.{subst}
+use Rattle.aide_conf.specs.Settings.{Configured}
+use Rattle.aide_conf.specs.declared.fault.ConfFault.{ConfFault}
+use Rattle.aide_conf.specs.declared.options.Options.{Options}
+use Rattle.aide_conf.proofs.Laws.{no_configuration_has_two_answers}
+use Rattle.aide_patterns.proofs.Laws.{one_reading}
+use Rattle.aide_patterns.specs.Line.{RuleText}
+use Rattle.aide_patterns.specs.List.{HasFirstFault, HasRules, IsReading}
+use Rattle.aide_patterns.specs.declared.fault.ListFault.{ListFault}
+use Rattle.aide_text.specs.Failures.{Rose}
+use Rattle.aide_merge.specs.declared.outcome.Outcome.{Outcome}
+use Rattle.aide_site.specs.Answer.{Named}
+use Rattle.aide_line_session.specs.LineAnswer.{ComparesForLines, IsLineAnswer, IsFileLineAnswer, IsReadLineAnswer}
+use Rattle.aide_line_session.specs.LineAnswer.{IsSizedLineAnswer, IsTextLineAnswer}
+use Rattle.aide_line_session.specs.LineAnswer.{IsGivenLineAnswer, IsListedLineAnswer}
+use Rattle.aide_line_session.specs.LineAnswer.{LineAnswer}
+use Rattle.aide_line_session.specs.LineAnswer.{refused_lines, trusted_of}
+use Rattle.aide_line_session.specs.LineEnds.{PairFailure, PairFailureCause, LineView, ClosesLines, ComparesPairs, EndsLinesBy}
+use Rattle.aide_line_session.specs.LineEnds.{EndsWithin, HasReadForLines, StopCause, StopsWith}
+use Rattle.aide_line_session.specs.LineEnds.{compared_line, of_compared, stop_line, stop_status}
+use Rattle.aide_line_session.specs.LineEnds.{StarvedLines, WholeLines, trusted_unopened, trusted_unread}
+use Rattle.aide_line_session.specs.LineEnds.{config_refused, config_too_large, config_unread, list_refused, no_memory_left, EarlyStop}
+use Rattle.aide_site.specs.Ends.{Puts, Sinks, config_unread as failed_config, unopened, unread, unwritten}
+use Rattle.aide_site.specs.Files.{Files, IsLarge, is_too_large}
+use Rattle.aide_line_session.specs.GivenList.{IsList, IsListOf, list_line, list_of}
+use Rattle.aide_site.specs.Held.{HoldsWithin, most_held}
+use Rattle.aide_site.specs.Lines.{conf_line, too_large_line, unread_line}
+use Rattle.aide_site.proofs.AnswerSteps.{same_file}
+use Rattle.aide_site.proofs.Endings.{by_reliable, same_some}
+use Rattle.aide_site.proofs.PutLemmas.{put_as, put_passed}
+use Rattle.aide_line_run.specs.Listed.{ListRead}
+use Rattle.aide_line_run.specs.declared.pair_fault.PairFault.{PairFault}
+use Rattle.aide_words.specs.LineJob.{LineJobText}
+use Rattle.aide_line_session.proofs.LineComparisons.{EndsFor, compared_ends, none_starts}
+
+-- ---- from the answer to a job to that of its configuration
+
+module _ (files trusted_files : Files) (job : LineJobText) (list : ListRead) (named : Named) (a : LineAnswer) where
+  of_text : (file : Option (List ℕ)) (text : List ℕ) → file ≡ Some text → is_too_large text ≡ false
+      → IsFileLineAnswer files trusted_files job list file named a → IsTextLineAnswer files trusted_files job list text named a
+  of_text file text same small is = search rules
+
+  of_large : (file : Option (List ℕ)) → IsLarge file → IsFileLineAnswer files trusted_files job list file named a
+      → a ≡ refused_lines too_large_line 17
+  of_large None large is = absurd large
+  of_large (Some text) large is = subst (λ (b : Bool). IsSizedLineAnswer files trusted_files job list b text named a) large is
+
+  of_none : (file : Option (List ℕ)) → file ≡ None → IsFileLineAnswer files trusted_files job list file named a
+      → a ≡ refused_lines (unread_line job.config) 18
+  of_none file none is = subst (λ (o : Option (List ℕ)). IsFileLineAnswer files trusted_files job list o named a) none is
+
+  -- the answer of the reading that was made
+  of_read : (read : Result Configured ConfFault) → HasReadForLines files job read → IsListedLineAnswer files trusted_files job list named a
+      → IsReadLineAnswer files trusted_files job list read named a
+  of_read read has is = search (rules, of_text, no_configuration_has_two_answers)
+
+-- ---- from the answer to a job to that of its list
+
+-- what was read of a list is determined by its text and its rules
+pub list_is : (text : List ℕ) (list : ListRead) → IsListOf text list → list_of text list.rules ≡ list
+list_is text list is = λ i. record { rules = list.rules; digest = sym is.digest i }
+
+rules_are_no_fault : (rules : List RuleText) (fault : ListFault) → Ok rules ≡ Err fault → ⊥
+rules_are_no_fault rules fault e = cc
+
+-- no text has rules and a fault
+pub no_rules_and_fault : (text : List ℕ) (rules : List RuleText) (fault : ListFault) → HasRules text rules → HasFirstFault text fault → ⊥
+no_rules_and_fault text rules fault has refused =
+    rules_are_no_fault rules fault (one_reading text (Ok rules) has ∙ sym (one_reading text (Err fault) refused))
+
+module _ (files trusted_files : Files) (job : LineJobText) (named : Named) (a : LineAnswer)
+    (is : IsLineAnswer files trusted_files job named a) where
+  -- the answer of a reading of the list
+  of_reading : (reading : Result (List RuleText) ListFault) → IsReading job.without reading
+      → IsGivenLineAnswer files trusted_files job reading named a
+  of_reading reading reads =
+      subst (λ (r : Result (List RuleText) ListFault). IsGivenLineAnswer files trusted_files job r named a)
+      (one_reading job.without is.reading is.list_reads ∙ sym (one_reading job.without reading reads)) is.then_is
+
+  of_rules : (has : IsList job.without) → IsListedLineAnswer files trusted_files job (list_of job.without has.0) named a
+  of_rules has = of_reading (Ok has.0) has.1
+
+  -- the answer of what was read of the list
+  of_list : (list : ListRead) → IsListOf job.without list → IsListedLineAnswer files trusted_files job list named a
+  of_list list listed =
+      subst (λ (l : ListRead). IsListedLineAnswer files trusted_files job l named a) (list_is job.without list listed)
+      (of_reading (Ok list.rules) listed.rules)
+
+-- ---- the end of a session
+
+whole_stop : (a : LineAnswer) (line : List ℕ) (code status : ℕ) (v : LineView) → a ≡ refused_lines line code
+    → StopsWith line code status v
+    → WholeLines a status v.sinks
+whole_stop a line code status v is stops = search rules
+
+module _ (job : LineJobText) (status before : ℕ) (v : LineView) (named : Named) (a : LineAnswer)
+    (is : IsLineAnswer v.files v.trusted_files job named a) where
+  stop_ends : (stop : EarlyStop) → StopCause v.files v.is_reliable job (Rose before v.site_after) stop
+      → StopsWith (stop_line job stop) (stop_status stop) status v
+      → EndsFor a named (trusted_of job) status before v
+  stop_ends no_memory_left cause stops =
+      inr (inl (record { status_is = stops.status_is; output = stops.output; put = stops.put }))
+  stop_ends (list_refused fault) cause stops =
+      inl (whole_stop a (list_line fault) 17 status v (of_reading v.files v.trusted_files job named a is (Err fault) cause) stops)
+  stop_ends config_unread cause stops =
+      by_reliable v.is_reliable (EndsFor a named (trusted_of job) status before v)
+      (λ reliable.
+      let listed = of_rules v.files v.trusted_files job named a is cause.0 in
+      inl (whole_stop a (unread_line job.config) 18 status v
+      (of_none v.files v.trusted_files job (list_of job.without cause.0.0) named a listed.file
+      (same_file (v.files job.config) listed.file listed.known (cause.2 reliable)) listed.then_is)
+      stops))
+      (λ unreliable. inr (inr (record {
+        status_is = stops.status_is;
+        output = none_starts a.output v.sinks.out_old v.sinks.out_new stops.output;
+        failure = of_compared failed_config;
+        cause = (unreliable, cause.1);
+        put = put_as _ _ (ap unread_line (sym is.config_is)) stops.put;
+      })))
+  stop_ends config_too_large cause stops =
+      let listed = of_rules v.files v.trusted_files job named a is cause.0 in
+      inl (whole_stop a too_large_line 17 status v
+      (of_large v.files v.trusted_files job (list_of job.without cause.0.0) named a listed.file (cause.1 listed.file listed.known)
+      listed.then_is)
+      stops)
+  stop_ends (config_refused fault) cause stops =
+      inl (whole_stop a (conf_line fault) 17 status v
+      (of_read v.files v.trusted_files job (list_of job.without cause.0.0) named a (Err fault) cause.1
+      (of_rules v.files v.trusted_files job named a is cause.0))
+      stops)
+
+  -- the comparison of the answer
+  answer_compares : (closes : ClosesLines job status before v)
+      → ComparesForLines v.files v.trusted_files job closes.list closes.settings named a
+  answer_compares closes =
+      of_read v.files v.trusted_files job closes.list named a (Ok closes.settings) closes.read
+      (of_list v.files v.trusted_files job named a is closes.list closes.listed)
+
+  -- the paths of the comparison are those of the answer
+  same_paths : (closes : ClosesLines job status before v) → closes.named ≡ named
+  same_paths closes =
+      let compares = answer_compares closes in
+      let old = same_some closes.settings.old_path closes.named.old_path named.old_path closes.old_is compares.old_is in
+      let new = same_some closes.settings.new_path closes.named.new_path named.new_path closes.new_is compares.new_is in
+      let config = closes.config_is ∙ sym is.config_is in
+      λ i. record { config = config i; old_path = old i; new_path = new i }
+
+  -- a session ends with the answer to its job, or is kept from it
+  pub lines_end : EndsLinesBy job status before v → EndsFor a named (trusted_of job) status before v
+  lines_end ends = elim ends [
+    | inl early ↦ stop_ends early.stop early.cause early.stops
+    | inr closes ↦
+        let compares = answer_compares closes in
+        let same = same_paths closes in
+        let result = closes.closes.result in
+        subst (λ (x : LineAnswer). EndsFor x named (trusted_of job) status before v) (sym compares.then_is)
+        (compared_ends job closes.list status before closes.count v closes.settings named closes.later a compares result
+        (subst (λ (n : Named). ComparesPairs closes.list n (trusted_of job) closes.settings.options result (Rose closes.count v.site_after)
+        v) same
+        closes.closes.compares)
+        closes.closes.status_is
+        (subst (λ (n : Named). Puts (compared_line n (trusted_of job) result) v.sinks) same closes.closes.put))
+  ]
+
+  -- the first desk has held no more than three lines of the named databases
+  pub line_bound : EndsLinesBy job status before v → HoldsWithin v.files named v.peak_before v.peak_after
+  line_bound ends = elim ends [
+    | inl early ↦ λ old new has_old has_new. let still = early.stops.still in omega (arith, still)
+    | inr closes ↦ subst (λ (n : Named). HoldsWithin v.files n v.peak_before v.peak_after) (same_paths closes) closes.closes.compares.bound
+  ]
+
+-- the peak of neither desk falls, and it rises at most to three lines as long as the limit
+abbrev pub PeaksRise : LineView → Type 0
+PeaksRise v = (v.peak_before ≤ v.peak_after) × (v.peak_after ≤ max v.peak_before most_held)
+    × (v.trusted_peak_before ≤ v.trusted_peak_after)
+    × (v.trusted_peak_after ≤ max v.trusted_peak_before most_held)
+
+-- what both desks have held
+module _ (job : LineJobText) (status before : ℕ) (v : LineView) where
+  pub trusted_line_bound : EndsLinesBy job status before v
+      → HoldsWithin v.trusted_files (trusted_of job) v.trusted_peak_before v.trusted_peak_after
+  trusted_line_bound ends = search rules
+
+  pub peaks_of_lines : EndsLinesBy job status before v → PeaksRise v
+  peaks_of_lines ends = search rules
+
+-- standard error has counted no fewer failures
+pub put_rises : (job : LineJobText) (status before : ℕ) (v : LineView) → EndsLinesBy job status before v
+    → v.sinks.err_before ≤ v.sinks.err_after
+put_rises job status before v ends = search rules
+
+-- ---- without a failure
+
+no_failure_left : (failure : PairFailure) (site trusted_site out : Type 0) → (site → ⊥) → (trusted_site → ⊥) → (out → ⊥)
+    → PairFailureCause failure site trusted_site out → ⊥
+no_failure_left (of_compared failed_config) site trusted_site out none trusted_none out_none cause = none cause
+no_failure_left (of_compared (unopened side)) site trusted_site out none trusted_none out_none cause = none cause
+no_failure_left (of_compared (unread fault)) site trusted_site out none trusted_none out_none cause = none cause.1
+no_failure_left (of_compared unwritten) site trusted_site out none trusted_none out_none cause = out_none cause
+no_failure_left (trusted_unopened side) site trusted_site out none trusted_none out_none cause = trusted_none cause
+no_failure_left (trusted_unread fault) site trusted_site out none trusted_none out_none cause = trusted_none cause.1
+
+-- an ending without a failure
+pub lines_unfailed : (a : LineAnswer) (named trusted : Named) (status : ℕ) (s : Sinks) (site trusted_site out : Type 0) → (site → ⊥)
+    → (trusted_site → ⊥) → (out → ⊥) → EndsWithin a named trusted status s site trusted_site out
+    → WholeLines a status s ⊎ StarvedLines status s
+lines_unfailed a named trusted status s site trusted_site out none trusted_none out_none ends = search (rules, no_failure_left)
+
+-- ---- once the lines are passed on
+
+abbrev pub passed_view : LineView → Option (List ℕ) → ℕ → LineView
+passed_view v bytes count = record v { sinks = record v.sinks { err_new = bytes; err_after = count } }
+
+module _ (v : LineView) (bytes : Option (List ℕ)) (count : ℕ) (kept : Keeps v.sinks.err_new bytes) (more : v.sinks.err_after ≤ count)
+  where
+    passed : (line : List ℕ) → Puts line v.sinks → Puts line (passed_view v bytes count).sinks
+    passed line put = put_passed line _ _ _ _ _ _ kept more put
+
+    passed_stop : (line : List ℕ) (code status : ℕ) → StopsWith line code status v → StopsWith line code status (passed_view v bytes count)
+    passed_stop line code status stops = search (rules, passed)
+
+    passed_pairs : (list : ListRead) (named trusted : Named) (options : Options) (result : Result Outcome PairFault) (site : Type 0)
+        → ComparesPairs list named trusted options result site v
+        → ComparesPairs list named trusted options result site (passed_view v bytes count)
+    passed_pairs list named trusted options result site c = search rules
+
+    pub lines_passed : (job : LineJobText) (status before : ℕ) → EndsLinesBy job status before v
+        → EndsLinesBy job status before (passed_view v bytes count)
+    lines_passed job status before ends = elim ends [
+      | inl early ↦ inl (record {
+        stop = early.stop;
+        cause = early.cause;
+        stops = passed_stop (stop_line job early.stop) (stop_status early.stop) status early.stops;
+      })
+      | inr closes ↦ inr (record {
+        list = closes.list;
+        listed = closes.listed;
+        settings = closes.settings;
+        read = closes.read;
+        named = closes.named;
+        config_is = closes.config_is;
+        old_is = closes.old_is;
+        new_is = closes.new_is;
+        count = closes.count;
+        later = closes.later;
+        closes = record {
+          result = closes.closes.result;
+          status_is = closes.closes.status_is;
+          put = passed (compared_line closes.named (trusted_of job) closes.closes.result) closes.closes.put;
+          compares = passed_pairs closes.list closes.named (trusted_of job) closes.settings.options closes.closes.result
+              (Rose closes.count v.site_after) closes.closes.compares;
+        };
+      })
+    ]

@@ -1,0 +1,49 @@
+use Rattle.std.proofs.Common.{◌∙◌, ap, refl, Some, Err, rules}
+use Rattle.std.proofs.Math.Path.{subst}
+use Rattle.aide_patterns.specs.List.{HasFirstFault}
+use Rattle.aide_words.specs.LineJob.{LineJobText, text_of_line_job}
+use Rattle.aide_line_session.proofs.LineParts.{ends_for, is_none_and_some, same_job}
+use Rattle.aide_line_session.specs.LineSession.{check_job_of}
+use Rattle.aide_line_session.specs.SettingsTold.{settings_told}
+use Rattle.aide_line_session.proofs.CheckJobs.{only_checks}
+use Rattle.aide_site.proofs.Closings.{closes_starved, closes_unopened}
+use Rattle.aide_site.proofs.Endings.{ends_starved}
+use Rattle.aide_site.proofs.PutLemmas.{appends_none}
+use Rattle.aide_line_session.proofs.lines_program.run_line_words.Goals as goal
+
+pub returns-in-Ok-clause-alone : goal.returns-in-Ok-clause-alone
+returns-in-Ok-clause-alone g c = λ none. absurd (is_none_and_some _ _ none c.in-Ok.ensures.ok)
+
+pub returns-in-Ok-clause-compares : goal.returns-in-Ok-clause-compares
+returns-in-Ok-clause-compares g c = λ job is.
+    ends_for (text_of_line_job c.in-Ok.job) job _ _ _ (same_job _ _ _ c.in-Ok.ensures.ok is) c.run_line_job.ensures.closes
+
+pub returns-in-Ok-clause-unlooked : goal.returns-in-Ok-clause-unlooked
+returns-in-Ok-clause-unlooked g c = λ job is fault has.
+    c.run_line_job.ensures.unlooked fault
+    (subst (λ (j : LineJobText). HasFirstFault j.without fault) (same_job _ _ _ is c.in-Ok.ensures.ok) has)
+
+pub returns-in-Err-Usage-clause-unlooked : goal.returns-in-Err-Usage-clause-unlooked
+returns-in-Err-Usage-clause-unlooked g c = λ job is.
+    absurd (is_none_and_some _ _ (c.read_line_words.ensures.usage (c.in-Err-Usage.is ∙ ap Err c.in-Err-Usage.field-0-is)) is)
+
+pub returns-in-Err-Usage-clause-alone : goal.returns-in-Err-Usage-clause-alone
+returns-in-Err-Usage-clause-alone g c = λ none. record {
+  ends = c.run_check_words.ensures.ends;
+  closes = c.run_check_words.ensures.closes;
+  unopened = closes_unopened (Some settings_told) _ (check_job_of c.args.words.now) _ _ _ _ _ (only_checks c.args.words.now)
+      c.run_check_words.ensures.closes;
+  still = c.run_check_words.ensures.still;
+  trusted_unopened = refl;
+  trusted_still = refl;
+}
+
+pub returns-in-Err-Usage-clause-compares : goal.returns-in-Err-Usage-clause-compares
+returns-in-Err-Usage-clause-compares g c = λ job is.
+    absurd (is_none_and_some _ _ (c.read_line_words.ensures.usage (c.in-Err-Usage.is ∙ ap Err c.in-Err-Usage.field-0-is)) is)
+
+pub returns-in-Err-Memory-clause-alone : goal.returns-in-Err-Memory-clause-alone
+returns-in-Err-Memory-clause-alone g c = search (rules, ends_starved, closes_starved)
+
+pub returns-in-Err-Memory-clause-compares : goal.returns-in-Err-Memory-clause-compares
+returns-in-Err-Memory-clause-compares g c = search (rules, appends_none)

@@ -1,0 +1,9 @@
+pub mod AsksForLines
+pub mod GivenList
+pub mod LineAnswer
+pub mod LineEnds
+pub mod LineSession
+pub mod SettingsTold
+pub mod Trusted
+pub mod TrustedLines
+pub mod code

@@ -1,0 +1,189 @@
+//! Comparing the two databases that the settings name and the two of a trusted pair.
+ghost use Rattle.std.specs.Prelude.{◌≡◌, ◌≤◌, ◌⊎◌, ℕ, true, List, Some, None, OnOk};
+ghost use Rattle.aide_merge.specs.Asked.{asked};
+ghost use Rattle.aide_text.specs.Failures.{Rose};
+ghost use Rattle.aide_line_session.specs.LineEnds.{ClosesCompared, StopsWith};
+ghost use Rattle.aide_site.specs.Lines.{memory_line};
+ghost use Rattle.aide_site.specs.Pointing.{KeepsFiles, KeepsOthers};
+ghost use Rattle.aide_line_session.specs.Trusted.{trusted_at};
+ghost use Rattle.aide_line_session.specs.code.LineParts.{IsPointed, files_of, line_view_between};
+ghost use Rattle.aide_line_session.specs.code.LineParts.{lent_pair, named_by};
+ghost use Rattle.aide_site.specs.code.Parts.{AreSame};
+ghost use Rattle.aide_line_run.specs.ListView.{list_read};
+ghost use Rattle.aide_line_run.specs.SamePair.{AreSamePair};
+
+use crate::as_line::AsLine;
+use crate::trusted_lines::{pair_status, put_pair_fault};
+use aide_conf::Task;
+use aide_db::{Desk, Side};
+use aide_line_run::{Tasks, TrustedPair, run_lines};
+use aide_site::{
+    Devices, LIMITS, LONGEST, Site, SiteWithDesk, Status, put_memory_line, put_outcome_lines,
+};
+use aide_text::Sink;
+use aide_words::Memory;
+use std::alloc::Global;
+
+/// Points a side of a site at its database. For the trusted pair the empty path stands for the
+/// empty database.
+#[tactic(auto, unfolding(crate::specs::Trusted::trusted_at))]
+fn point_side<S: Site>(
+    alloc: Global,
+    site: &mut S,
+    side: Side,
+    path: &str,
+    is_trusted: bool,
+) -> Result<(), Memory>
+    ensures pointed { OnOk result ((bytes : List ℕ)
+        → files_of is_trusted (S.file_at site.old) path.now ≡ Some (Some bytes)
+        → S.bytes_of site.new side ≡ Some bytes) }
+    ensures gone { OnOk result (files_of is_trusted (S.file_at site.old) path.now ≡ Some None
+        → S.is_missing site.new side ≡ true) }
+    ensures others { OnOk result (KeepsOthers S.Sources S.path_of side site.old site.new) }
+    ensures keeps { KeepsFiles S.Sources site.old site.new }
+{
+    if is_trusted && path.is_empty() {
+        site.point_at_empty(side);
+        return Ok(());
+    }
+    site.point(alloc, side, path)
+}
+
+/// Points a site at the databases of its pair, and reserves what a comparison may hold of them.
+fn prepare<S: Site>(
+    alloc: Global,
+    desk: &mut Desk<Global>,
+    site: &mut S,
+    task: &Task<'_>,
+    is_trusted: bool,
+) -> Result<(), Memory>
+    ensures keeps { KeepsFiles S.Sources site.old site.new }
+    ensures peak { desk.new.peak ≡ desk.old.peak }
+    ensures room { OnOk result (1048576 ≤ desk.new.room) }
+    ensures pointed { OnOk result (IsPointed (files_of is_trusted (S.file_at site.old))
+        (asked task.now) (S.bytes_of site.new) (S.is_missing site.new)) }
+{
+    if let Err(Memory) = point_side(alloc, site, Side::Old, task.old_path, is_trusted) {
+        return Err(Memory);
+    }
+    if let Err(Memory) = point_side(alloc, site, Side::New, task.new_path, is_trusted) {
+        return Err(Memory);
+    }
+    let Ok(()) = desk.reserve(LONGEST) else {
+        return Err(Memory);
+    };
+    Ok(())
+}
+
+/// Compares the databases that both sites are pointed at. Each desk has room for any line.
+fn compare_pairs<S: Site, W: Sink, E: Sink>(
+    tasks: &Tasks<'_>,
+    devices: &mut Devices<'_, AsLine, S, W, E>,
+    pair: &mut TrustedPair<'_, S, Global>,
+) -> u8
+    requires room { 1048576 ≤ devices.old.desk.now.room }
+    requires trusted_room { 1048576 ≤ pair.old.desk.now.room }
+    ensures same { AreSame devices.old devices.new }
+    ensures same_pair { AreSamePair pair.old pair.new }
+    ensures closes { (config : List ℕ)
+        → IsPointed (S.file_at devices.old.site.now) (asked tasks.now.compared.now)
+        (S.bytes_of devices.old.site.now) (S.is_missing devices.old.site.now)
+        → IsPointed (trusted_at (S.file_at pair.old.sources.now)) (asked tasks.now.trusted.now)
+        (S.bytes_of pair.old.sources.now) (S.is_missing pair.old.sources.now)
+        → tasks.now.trusted.now.options ≡ tasks.now.compared.now.options
+        → ClosesCompared (list_read tasks.now.list)
+        (named_by config (asked tasks.now.compared.now))
+        (named_by config (asked tasks.now.trusted.now)) tasks.now.compared.now.options result
+        (Rose (S.failures devices.old.site.now) (S.failures devices.new.site.now))
+        (line_view_between S.Sources W.Sink E.Sink devices.old devices.new
+        (lent_pair pair.old) (lent_pair pair.new)) }
+    ensures lookups { S.lookups devices.new.site.now ≡ S.lookups devices.old.site.now }
+    ensures trusted_lookups { S.lookups pair.new.sources.now ≡ S.lookups pair.old.sources.now }
+{
+    match run_lines(tasks, LIMITS, devices.desk, devices.site, pair, devices.out) {
+        Ok(outcome) => {
+            put_outcome_lines(devices.err, &outcome);
+            outcome.status()
+        }
+        Err(fault) => {
+            put_pair_fault(devices.err, tasks.compared, tasks.trusted, fault);
+            pair_status(fault)
+        }
+    }
+}
+
+/// Compares the databases of both tasks, which the sites are pointed at.
+fn run_pairs<S: Site, W: Sink, E: Sink>(
+    tasks: &Tasks<'_>,
+    devices: &mut Devices<'_, AsLine, S, W, E>,
+    trusted: &mut SiteWithDesk<S>,
+) -> u8
+    requires room { 1048576 ≤ devices.old.desk.now.room }
+    requires trusted_room { 1048576 ≤ trusted.old.desk.room }
+    ensures same { AreSame devices.old devices.new }
+    ensures closes { (config : List ℕ)
+        → IsPointed (S.file_at devices.old.site.now) (asked tasks.now.compared.now)
+        (S.bytes_of devices.old.site.now) (S.is_missing devices.old.site.now)
+        → IsPointed (trusted_at (S.file_at trusted.old.site)) (asked tasks.now.trusted.now)
+        (S.bytes_of trusted.old.site) (S.is_missing trusted.old.site)
+        → tasks.now.trusted.now.options ≡ tasks.now.compared.now.options
+        → ClosesCompared (list_read tasks.now.list)
+        (named_by config (asked tasks.now.compared.now))
+        (named_by config (asked tasks.now.trusted.now)) tasks.now.compared.now.options result
+        (Rose (S.failures devices.old.site.now) (S.failures devices.new.site.now))
+        (line_view_between S.Sources W.Sink E.Sink devices.old devices.new
+        trusted.old trusted.new) }
+    ensures lookups { S.lookups devices.new.site.now ≡ S.lookups devices.old.site.now }
+    ensures trusted_lookups { S.lookups trusted.new.site ≡ S.lookups trusted.old.site }
+{
+    let mut pair = TrustedPair {
+        desk: &mut trusted.desk,
+        sources: &mut trusted.site,
+    };
+    compare_pairs(tasks, devices, &mut pair)
+}
+
+/// Points both sites at their databases, reserves what a comparison may hold, and compares the
+/// databases.
+pub(crate) fn compare_lines<S: Site, W: Sink, E: Sink>(
+    tasks: &Tasks<'_>,
+    devices: &mut Devices<'_, AsLine, S, W, E>,
+    trusted: &mut SiteWithDesk<S>,
+) -> u8
+    ensures same { AreSame devices.old devices.new }
+    ensures closes { (config : List ℕ)
+        → tasks.now.trusted.now.options ≡ tasks.now.compared.now.options
+        → StopsWith memory_line 22 result
+        (line_view_between S.Sources W.Sink E.Sink devices.old devices.new
+        trusted.old trusted.new)
+        ⊎ ClosesCompared (list_read tasks.now.list)
+        (named_by config (asked tasks.now.compared.now))
+        (named_by config (asked tasks.now.trusted.now)) tasks.now.compared.now.options result
+        (Rose (S.failures devices.old.site.now) (S.failures devices.new.site.now))
+        (line_view_between S.Sources W.Sink E.Sink devices.old devices.new
+        trusted.old trusted.new) }
+    ensures lookups { S.lookups devices.new.site.now ≡ S.lookups devices.old.site.now }
+    ensures trusted_lookups { S.lookups trusted.new.site ≡ S.lookups trusted.old.site }
+{
+    if let Err(Memory) = prepare(
+        devices.alloc,
+        devices.desk,
+        devices.site,
+        tasks.compared,
+        false,
+    ) {
+        put_memory_line(devices.err);
+        return Status::Memory as u8;
+    }
+    if let Err(Memory) = prepare(
+        devices.alloc,
+        &mut trusted.desk,
+        &mut trusted.site,
+        tasks.trusted,
+        true,
+    ) {
+        put_memory_line(devices.err);
+        return Status::Memory as u8;
+    }
+    run_pairs(tasks, devices, trusted)
+}
