@@ -1,9 +1,7 @@
 //! `aide`: compares two databases of files, or checks a configuration.
 #![tactic(auto)]
 
-pub use aide_session::{
-    FileSite, Job, Memory, MemorySite, Site, Word, Words, WordsFault, read_words, session, start,
-};
+use aide_report_session::start;
 use std::process::ExitCode;
 
 fn main(rt: HostRuntime) -> ExitCode {

@@ -5,14 +5,14 @@ use Rattle.aide_entry.specs.Cause.{is_memory}
 use Rattle.aide_entry.specs.declared.fault_kind.DbFaultKind.{DbFaultKind}
 use Rattle.aide_entry.specs.declared.fault_kind.DbFaultKind.TheVariants.{Read, Memory}
 use Rattle.aide_db.specs.declared.fault.DbFault.{DbFault}
-use Rattle.aide_report.specs.Missing.{EndsOver}
+use Rattle.aide_report_specs.specs.Missing.{EndsOver}
 use Rattle.aide_merge.specs.Room.{IsNotOfMemory}
 use Rattle.aide_merge.specs.RightAnswer.{Causes, IsHindered, Report, run_answer}
-use Rattle.aide_report.specs.Failures.{Rose}
+use Rattle.aide_text.specs.Failures.{Rose}
 use Rattle.aide_merge.specs.declared.outcome.Outcome.{Outcome}
 use Rattle.aide_merge.specs.declared.run_fault.RunFault.{RunFault}
 use Rattle.aide_merge.specs.declared.run_fault.RunFault.TheVariants.{Open, Database, Changed, Write}
-use Rattle.aide_session.specs.Put.{HasNoFailure}
+use Rattle.aide_site.specs.Put.{HasNoFailure}
 use Rattle.aide_headline.specs.Headline.{EndsAs}
 
 -- A count that stayed the same, and can still rise, did not rise.

@@ -1,2 +1,3 @@
 pub mod Laws
 pub mod LineLaws
+pub mod OutcomeLaws

@@ -16,12 +16,12 @@ use Rattle.aide_line_run.specs.RunEnds.{RunsLines}
 use Rattle.aide_line_run.specs.Listed.{ListRead}
 use Rattle.aide_line_run.specs.declared.pair_fault.PairFault.{PairFault}
 use Rattle.aide_line_run.specs.declared.pair_fault.PairFault.TheVariants.{Compared, Trusted}
-use Rattle.aide_session.specs.Answer.{Named, asked_by, limits}
-use Rattle.aide_session.specs.AsksForLines.{AsksForLines}
-use Rattle.aide_session.specs.Files.{Files}
-use Rattle.aide_session.specs.LineAnswer.{IsLineAnswer, LineAnswer, trusted_of}
-use Rattle.aide_session.proofs.LineExistence.{RunsLines-exists}
-use Rattle.aide_session.proofs.LineLaws.{line_answer_by_what_is_asked}
+use Rattle.aide_site.specs.Answer.{Named, asked_by, limits}
+use Rattle.aide_line_session.specs.AsksForLines.{AsksForLines}
+use Rattle.aide_site.specs.Files.{Files}
+use Rattle.aide_line_session.specs.LineAnswer.{IsLineAnswer, LineAnswer, trusted_of}
+use Rattle.aide_line_session.proofs.LineExistence.{RunsLines-exists}
+use Rattle.aide_line_session.proofs.LineLaws.{line_answer_by_what_is_asked}
 use Rattle.aide_words.specs.LineJob.{LineJobText}
 
 module _ (limits : Limits) (wish : Asked) (old new : List ℕ) where

@@ -6,9 +6,9 @@ ghost use Rattle.aide_db.specs.declared.fault.DbFault.{DbFault};
 ghost use Rattle.aide_headline.specs.Headline.{EndsAs};
 ghost use Rattle.aide_merge.specs.Asked.{asked};
 ghost use Rattle.aide_merge.specs.RightAnswer.{IsFirstFaultOf};
-ghost use Rattle.aide_report.specs.Given.{GiveOneDigest};
-ghost use Rattle.aide_report.specs.Runs.{report_over};
-ghost use Rattle.aide_session.specs.Put.{HasNoFailure};
+ghost use Rattle.aide_report_specs.specs.Given.{GiveOneDigest};
+ghost use Rattle.aide_report_specs.specs.Runs.{report_over};
+ghost use Rattle.aide_site.specs.Put.{HasNoFailure};
 
 use aide_conf::Task;
 use aide_db::{Desk, Limits, Side, Sources};

@@ -4,20 +4,22 @@ ghost use Rattle.aide_conf.specs.Settings.{Configured};
 ghost use Rattle.aide_db.specs.Longest.{longest_line};
 ghost use Rattle.aide_headline.specs.LineHeadline.{IsRightLineAnswer};
 ghost use Rattle.aide_merge.specs.RightAnswer.{Report};
-ghost use Rattle.aide_session.specs.Answer.{Named, asked_by, limits};
-ghost use Rattle.aide_session.specs.AsksForLines.{AsksForLines};
-ghost use Rattle.aide_session.specs.LineAnswer.{line_answer, lines_at_fault, trusted_of};
-ghost use Rattle.aide_session.specs.LineEnds.{StarvedLines, WholeLines};
-ghost use Rattle.aide_session.specs.Ends.{sinks_between};
-ghost use Rattle.aide_session.specs.Put.{HasNoFailure};
-ghost use Rattle.aide_session.specs.Trusted.{trusted_at};
+ghost use Rattle.aide_site.specs.Answer.{Named, asked_by, limits};
+ghost use Rattle.aide_line_session.specs.AsksForLines.{AsksForLines};
+ghost use Rattle.aide_line_session.specs.LineAnswer.{line_answer, lines_at_fault, trusted_of};
+ghost use Rattle.aide_line_session.specs.LineEnds.{StarvedLines, WholeLines};
+ghost use Rattle.aide_site.specs.Ends.{sinks_between};
+ghost use Rattle.aide_site.specs.Put.{HasNoFailure};
+ghost use Rattle.aide_line_session.specs.Trusted.{trusted_at};
 ghost use Rattle.aide_line_run.specs.Listed.{ListRead};
 ghost use Rattle.aide_line_run.specs.declared.pair_fault.PairFault.{PairFault};
 ghost use Rattle.aide_words.specs.LineJob.{LineJobText};
 
 use aide_db::Sources;
-use aide_report::Sink;
-use aide_session::{Site, SiteWithDesk, Words, lines_session_on};
+use aide_line_session::lines_session_on;
+use aide_site::{Site, SiteWithDesk};
+use aide_text::Sink;
+use aide_words::Words;
 use std::alloc::Global;
 
 /// Runs the whole program that writes lines of JSON on these sites and desks, by [`lines_session_on`].

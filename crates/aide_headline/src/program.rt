@@ -4,16 +4,18 @@ ghost use Rattle.aide_conf.specs.Settings.{Configured};
 ghost use Rattle.aide_db.specs.Longest.{longest_line};
 ghost use Rattle.aide_db.specs.declared.fault.DbFault.{DbFault};
 ghost use Rattle.aide_merge.specs.RightAnswer.{Report};
-ghost use Rattle.aide_report.specs.Given.{GiveOneDigest};
-ghost use Rattle.aide_report.specs.Runs.{Runs};
-ghost use Rattle.aide_session.specs.Answer.{Named, answer_of_run, asked_by, limits};
-ghost use Rattle.aide_session.specs.Asks.{Asks};
-ghost use Rattle.aide_session.specs.Ends.{Starved, Whole, sinks_between};
-ghost use Rattle.aide_session.specs.Put.{HasNoFailure};
+ghost use Rattle.aide_report_specs.specs.Given.{GiveOneDigest};
+ghost use Rattle.aide_report_specs.specs.Runs.{Runs};
+ghost use Rattle.aide_site.specs.Answer.{Named, answer_of_run, asked_by, limits};
+ghost use Rattle.aide_report_session.specs.Asks.{Asks};
+ghost use Rattle.aide_site.specs.Ends.{Starved, Whole, sinks_between};
+ghost use Rattle.aide_site.specs.Put.{HasNoFailure};
 
 use aide_db::{Desk, Sources};
-use aide_report::Sink;
-use aide_session::{Site, Words, session_on};
+use aide_report_session::session_on;
+use aide_site::Site;
+use aide_text::Sink;
+use aide_words::Words;
 use std::alloc::Global;
 
 /// Runs the whole program on this desk, by [`session_on`].

@@ -1,10 +1,10 @@
 //! The calls of a session that take memory. Each is made once more if memory is refused.
 use aide_db::{Side, Sources};
-use aide_report::WriteSink;
-use aide_session::{
-    Job, LineJob, Memory, MemorySite, Site, SiteWithDesk, Words, WordsFault, lines_session_on,
-    read_line_words, read_words, session,
-};
+use aide_line_session::lines_session_on;
+use aide_report_session::session;
+use aide_site::{MemorySite, Site, SiteWithDesk};
+use aide_text::WriteSink;
+use aide_words::{Job, LineJob, Memory, Words, WordsFault, read_line_words, read_words};
 use arrayvec::ArrayVec;
 use std::alloc::Global;
 

@@ -6,7 +6,8 @@ mod calls;
 mod rows;
 
 use aide_db::Side;
-use aide_session::{Memory, MemorySite, SiteWithDesk, Words};
+use aide_site::{MemorySite, SiteWithDesk};
+use aide_words::{Memory, Words};
 use calls::{add, job_of, line_job_of, point, push, run, run_lines};
 use rows::{CONF, LINES_ROWS, LinesRow, MODES_NEW, MODES_OLD, ROWS, Row, TRUSTED_OLD};
 use std::process::ExitCode;

@@ -47,16 +47,17 @@ const UNORDERED: &[u8] = b"@@begin_db\n@@db_spec name size\n/b 1\n/a 1\n@@end_db
 
 /// The modes of `/a` and `/b` have changed.
 pub(crate) const MODES_OLD: &[u8] =
-    b"@@begin_db\n@@db_spec name perm\n/a 40755\n/b 40755\n@@end_db\n";
+    b"@@begin_db\n@@db_spec name perm uid gid\n/a 40755 0 0\n/b 40755 0 0\n@@end_db\n";
 
 pub(crate) const MODES_NEW: &[u8] =
-    b"@@begin_db\n@@db_spec name perm\n/a 40700\n/b 40777\n@@end_db\n";
+    b"@@begin_db\n@@db_spec name perm uid gid\n/a 40700 0 0\n/b 40777 0 0\n@@end_db\n";
 
-/// The trusted machine has the new mode of `/a`, and not that of `/b`.
-pub(crate) const TRUSTED_OLD: &[u8] = b"@@begin_db\n@@db_spec name perm\n/b 40755\n@@end_db\n";
+/// The trusted machine got the new mode of `/a`, and not that of `/b`.
+pub(crate) const TRUSTED_OLD: &[u8] =
+    b"@@begin_db\n@@db_spec name perm uid gid\n/a 40755 0 0\n/b 40755 0 0\n@@end_db\n";
 
 const TRUSTED_NEW: &[u8] =
-    b"@@begin_db\n@@db_spec name perm\n/a 40700\n/b 40755\n/c 40755\n@@end_db\n";
+    b"@@begin_db\n@@db_spec name perm uid gid\n/a 40700 0 0\n/b 40755 0 0\n/c 40755 0 0\n@@end_db\n";
 
 pub(crate) const ROWS: [Row; 10] = [
     Row {

@@ -6,7 +6,6 @@ pub mod TallyLemmas
 pub mod WalkLemmas
 pub mod SettleLemmas
 pub mod Laws
-pub mod NoEntries
 pub mod PairLemmas
 pub mod ReadLemmas
 pub mod EndLemmas

@@ -1,5 +1,4 @@
 pub mod BeforeFault
-pub mod EmptyDatabase
 pub mod Lines
 pub mod RunEnds
 pub mod LinesRun

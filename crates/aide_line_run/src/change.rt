@@ -7,8 +7,8 @@ ghost use Rattle.aide_entry.specs.View.{entry_in};
 ghost use Rattle.aide_left_out.specs.LeftOut.{path_of};
 ghost use Rattle.aide_merge.specs.code.ChangeView.{change_of};
 
+use aide_agreement::Change;
 use aide_db::{View, cmp_names};
-use aide_merge::Change;
 use std::cmp::Ordering;
 
 /// Returns the entries of a change, the old one first.

@@ -8,10 +8,11 @@ ghost use Rattle.aide_text.specs.PenSheet.{on_sheet};
 ghost use Rattle.aide_text.specs.Sheet.{Wrote};
 
 use crate::line_counts::{add_account, add_entry, add_kind};
+use aide_agreement::Change;
 use aide_attr::Level;
 use aide_conf::Options;
 use aide_line_text::{Account, LineCounts, Remark, put_entry_line};
-use aide_merge::{Change, letters, path_of, said_of, sides_of};
+use aide_merge::{letters, path_of, said_of};
 use aide_text::{Pen, Sink};
 
 /// Returns the options of the report that shows most.
@@ -42,7 +43,7 @@ fn put_change_line<W: Sink>(
         account,
         shown,
     };
-    put_entry_line(out, pen, path_of(change), remark, sides_of(change));
+    put_entry_line(out, pen, path_of(change), remark, change);
 }
 
 /// Writes the line of a change for which this accounts if it is an added, removed or changed entry, and counts it.

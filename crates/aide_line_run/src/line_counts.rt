@@ -5,8 +5,9 @@ ghost use Rattle.aide_merge.specs.code.ChangeView.{change_of};
 ghost use Rattle.aide_line_run.specs.code.LineTally.{AreLinesBelow, with_account, with_entry};
 ghost use Rattle.aide_line_run.specs.code.LineTally.{with_kind};
 
+use aide_agreement::Change;
 use aide_line_text::{Account, LineCounts};
-use aide_merge::{Change, Outcome, Readings};
+use aide_merge::{Outcome, Readings};
 
 /// Returns counts that are all 0.
 pub(crate) fn no_counts() -> LineCounts

@@ -5,10 +5,11 @@ ghost use Rattle.aide_line_run.specs.Listed.{left_by};
 ghost use Rattle.aide_line_run.specs.ListView.{list_read, measures_at};
 
 use crate::change::entries_of;
+use aide_agreement::Change;
 use aide_attr::Attr;
 use aide_db::Reel;
 use aide_left_out::{Measures, left_out};
-use aide_merge::{Change, Merge};
+use aide_merge::Merge;
 use aide_patterns::Exclusions;
 
 /// A list that says what is left out.
@@ -33,7 +34,7 @@ pub(crate) fn line_of<R: Reel>(
     list: LeftOutList<'_>,
     merge: &Merge<R>,
     change: Change<'_>,
-    room: &mut [u8; 4096],
+    room: &mut [u8; 3839],
 ) -> Option<u64>
     ensures { result ≡ left_by (list_read list.entry) (measures_at merge.now)
         (change_of change.entry) }

@@ -13,10 +13,10 @@ ghost use Rattle.aide_line_run.specs.Sought.{found_at};
 
 use crate::change::{entries_of, is_at, is_before};
 use crate::list::{LeftOutList, line_of};
-use aide_agreement::{SameAs, same_as};
+use aide_agreement::{Change, SameAs, same_as};
 use aide_db::{DbFault, Desk, Reel, View};
 use aide_line_text::{Account, account_as};
-use aide_merge::{Change, Merge};
+use aide_merge::Merge;
 use std::alloc::Allocator;
 
 /// Brings the merge of the trusted pair to the first path that is not before that of a change.
@@ -94,7 +94,7 @@ pub(crate) fn account_of<R: Reel, A: Allocator + Copy>(
     trusted_desk: &Desk<A>,
     list: LeftOutList<'_>,
     change: Change<'_>,
-    room: &mut [u8; 4096],
+    room: &mut [u8; 3839],
 ) -> Option<Account>
     requires ready { IsReady trusted.now trusted_desk.now }
     requires not_due { IsNotDue trusted.now }

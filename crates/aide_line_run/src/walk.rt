@@ -65,7 +65,7 @@ pub(crate) fn put_accounted<R: Reel, W: Sink, A: Allocator + Copy>(
     ensures stopped { IfErr result (IsPairStopped R.Reel merges.new desk.new) }
 {
     let mut counts = no_counts();
-    let mut room = [0; 4096];
+    let mut room = [0; 3839];
     'pass: loop {
         if let Err(fault) = merges.compared.read_due(desk) {
             return Err(PairStop::Compared(fault));

@@ -2,7 +2,7 @@ use Rattle.std.proofs.Common.{inl, inr, refl}
 use Rattle.std.specs.Prelude.{Some, Ok, Err}
 use Rattle.aide_merge.specs.Asked.{asked}
 use Rattle.aide_merge.specs.RightAnswer.{run_answer}
-use Rattle.aide_report.specs.Runs.{report_over}
+use Rattle.aide_report_specs.specs.Runs.{report_over}
 use Rattle.aide_headline.proofs.Laws.{ends_with_the_right_answer}
 use Rattle.aide_headline.proofs.comparison.compare_databases.Goals as goal
 

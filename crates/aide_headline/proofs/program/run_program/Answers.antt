@@ -1,7 +1,7 @@
 use Rattle.std.proofs.Common.{None, arith}
 use Rattle.aide_report.proofs.RunLaws.{two_texts_have_an_answer}
-use Rattle.aide_session.specs.Answer.{answer_of_run, asked_by, limits}
-use Rattle.aide_session.proofs.Laws.{a_good_status_means_one_digest, answer_by_what_is_asked}
+use Rattle.aide_site.specs.Answer.{answer_of_run, asked_by, limits}
+use Rattle.aide_report_session.proofs.Laws.{a_good_status_means_one_digest, answer_by_what_is_asked}
 use Rattle.aide_headline.proofs.program.run_program.Goals as goal
 
 pub returns-clause-answer : goal.returns-clause-answer

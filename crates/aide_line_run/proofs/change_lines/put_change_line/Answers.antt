@@ -11,4 +11,4 @@ unfolding change_line
 returns g c =
     wrote_as (λ i. entry_line (c.path_of.ensures i) (c.requires i) c.args.account
     (λ a. (c.said_of.ensures.shown a ∙ ap (λ options. shows_at options (change_of c.args.change).1 a) c.widest.ensures) i)
-    (c.sides_of.ensures i)) c.put_entry_line.ensures
+    (change_of c.args.change).1) c.put_entry_line.ensures

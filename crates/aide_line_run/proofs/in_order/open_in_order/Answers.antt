@@ -1,5 +1,5 @@
 use Rattle.std.proofs.Common.{◌≡◌, ◌∙◌, ap, arith, refl, sym, true, false}
-use Rattle.aide_db.specs.Count.{one_more}
+use Rattle.aide_entry.specs.Count.{one_more}
 use Rattle.aide_db.specs.declared.side.Side.TheVariants.{Old, New}
 use Rattle.aide_merge.specs.Seen.{seen}
 use Rattle.aide_merge.specs.code.ReadFaults.{IsReadingFault}

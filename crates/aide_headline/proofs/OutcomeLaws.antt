@@ -1,7 +1,7 @@
 -- The outcome of the lines of two databases is that of their report.
 use Rattle.std.proofs.Common.{◌≡◌, ℕ, List, refl}
 use Rattle.aide_merge.specs.Asked.{Asked}
-use Rattle.aide_report.specs.Runs.{report_over}
+use Rattle.aide_report_specs.specs.Runs.{report_over}
 use Rattle.aide_line_run.specs.ChangeLines.{widest}
 use Rattle.aide_line_run.specs.Lines.{lines_of_texts}
 use Rattle.aide_line_run.specs.Listed.{ListRead}
