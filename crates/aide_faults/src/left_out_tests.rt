@@ -135,7 +135,7 @@ fn hold(desk: &mut Desk<Global>, side: Side, text: &[u8]) -> Result<Step, DbFaul
 
 /// The line of a list that leaves out what is on a desk, or 0. It has no contract, as `hold` has none.
 fn line_of(list: &Exclusions<'_>, measures: Measures, desk: &Desk<Global>) -> u64 {
-    let mut room = [0u8; 4096];
+    let mut room = [0u8; 3839];
     let old_one = desk.view(Side::Old);
     left_out(list, measures, old_one, desk.view(Side::New), &mut room).unwrap_or(0)
 }

@@ -1,10 +1,10 @@
 //! Sinks that take few bytes at a time, or fail after a chosen number of bytes once or for good.
 ghost use Rattle.std.specs.Prelude.{◌≡◌, false, true};
-ghost use Rattle.aide_report.specs.Failures.{one_more};
+ghost use Rattle.aide_text.specs.Failures.{one_more};
 
 use crate::pace::Pace;
 use aide_db::DeviceFault;
-use aide_report::Sink;
+use aide_text::Sink;
 
 /// Passes bytes on to another sink, few at a time. After a chosen number of bytes every write fails, or one call.
 #[derive(Drop)]

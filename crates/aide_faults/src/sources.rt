@@ -1,6 +1,6 @@
 //! Sources that fail, or give other bytes, at chosen openings.
 ghost use Rattle.std.specs.Prelude.{◌≡◌, IfSome, Some, None};
-ghost use Rattle.aide_db.specs.Count.{one_more, sum_of};
+ghost use Rattle.aide_entry.specs.Count.{one_more, sum_of};
 ghost use Rattle.aide_db.specs.Side.{by_side, other_side};
 ghost use Rattle.aide_faults.specs.Plan.{steady, text_at};
 

@@ -7,6 +7,7 @@ mod headline;
 mod lines;
 mod pages;
 mod session;
+mod settings_line;
 mod summary;
 mod trusted;
 mod words;

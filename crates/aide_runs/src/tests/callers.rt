@@ -9,8 +9,8 @@ use super::session::{site_of, words_of};
 use super::summary::{CONFIG, CUT, NEW, OLD, REPORT};
 use aide_conf::{Need, Settings};
 use aide_db::{Desk, MemorySources};
-use aide_report::MemorySink;
-use aide_session::{MemorySite, SiteWithDesk};
+use aide_site::{MemorySite, SiteWithDesk};
+use aide_text::MemorySink;
 use by_clauses::{lines_on, report_on};
 use by_run::{LIMITS, Refusal, counts_of};
 use by_run_clauses::{

@@ -2,8 +2,10 @@
 use super::lines::{MODE_600, MODE_644};
 use super::session::{CONF, site_of, words_of};
 use aide_db::Desk;
-use aide_report::MemorySink;
-use aide_session::{Site, Words, session_on};
+use aide_report_session::session_on;
+use aide_site::Site;
+use aide_text::MemorySink;
+use aide_words::Words;
 use std::alloc::Global;
 use std::test::Fail;
 

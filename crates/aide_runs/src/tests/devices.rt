@@ -1,8 +1,8 @@
 //! Sessions whose standard output or standard error fails, once or for good.
 use super::session::{CONF, compare, site_of, status_of, words_of};
 use aide_faults::{Pace, PlannedSink, Refusing};
-use aide_report::MemorySink;
-use aide_session::Memory;
+use aide_text::MemorySink;
+use aide_words::Memory;
 use std::alloc::Global;
 use std::process::Abort;
 use std::test::Fail;

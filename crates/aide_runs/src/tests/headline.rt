@@ -5,8 +5,10 @@ use super::summary::{CONFIG, CUT, NEW, OLD, REPORT};
 use aide_conf::{Need, Settings};
 use aide_db::{Desk, Limits, MemorySources};
 use aide_headline::{compare_databases, run_program};
-use aide_report::{MemorySink, Outcome, RunFault, Sink};
-use aide_session::{MemorySite, Site, Words};
+use aide_merge::{Outcome, RunFault};
+use aide_site::{MemorySite, Site};
+use aide_text::{MemorySink, Sink};
+use aide_words::Words;
 use std::alloc::Global;
 use std::test::Fail;
 

@@ -1,8 +1,10 @@
 //! Sessions that write lines of JSON. Their output is that of the plain program in `tests/oracle`.
 use super::session::{CONF, Ended, site_of, words_of};
 use aide_headline::run_lines_program;
-use aide_report::MemorySink;
-use aide_session::{Memory, MemorySite, Site, SiteWithDesk, Words, lines_session_on};
+use aide_line_session::lines_session_on;
+use aide_site::{MemorySite, Site, SiteWithDesk};
+use aide_text::MemorySink;
+use aide_words::{Memory, Words};
 use std::alloc::Global;
 use std::process::Abort;
 use std::test::Fail;

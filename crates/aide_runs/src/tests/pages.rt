@@ -1,8 +1,9 @@
 //! A `PagedSink` over a sink that fails, by itself and in a session whose report has several pages.
 use super::session::compare;
 use aide_faults::{Pace, PlannedSink};
-use aide_report::{Sink, WriteSink, emit};
-use aide_session::{Memory, PagedSink};
+use aide_site::PagedSink;
+use aide_text::{Sink, WriteSink, emit};
+use aide_words::Memory;
 use std::alloc::{AllocError, Global};
 use std::process::Abort;
 use std::test::Fail;

@@ -1,6 +1,8 @@
 //! Runs a session over files in memory.
-use aide_report::{MemorySink, Sink};
-use aide_session::{Memory, MemorySite, Site, Words, session};
+use aide_report_session::session;
+use aide_site::{MemorySite, Site};
+use aide_text::{MemorySink, Sink};
+use aide_words::{Memory, Words};
 use std::alloc::Global;
 use std::process::Abort;
 

@@ -1,20 +1,23 @@
 //! Sessions with a trusted pair. Their output is that of the plain program in `tests/oracle`.
 use super::lines::{are_cut, ended_on, program_ended};
 use super::session::{CONF, Ended, site_of, words_of};
-use aide_session::{Memory, MemorySite, SiteWithDesk};
+use aide_site::{MemorySite, SiteWithDesk};
+use aide_words::Memory;
 use std::alloc::Global;
 use std::process::Abort;
 use std::test::Fail;
 
-const OLD: &[u8] = b"@@begin_db\n@@db_spec name perm\n/kept 40755\n/opened 40700\n@@end_db\n";
+const OLD: &[u8] =
+    b"@@begin_db\n@@db_spec name perm uid gid\n/kept 40755 0 0\n/opened 40700 0 0\n@@end_db\n";
 
 /// In this one the modes of both directories have changed.
-const NEW: &[u8] = b"@@begin_db\n@@db_spec name perm\n/kept 40700\n/opened 40777\n@@end_db\n";
+const NEW: &[u8] =
+    b"@@begin_db\n@@db_spec name perm uid gid\n/kept 40700 0 0\n/opened 40777 0 0\n@@end_db\n";
 
-const TRUSTED_OLD: &[u8] = b"@@begin_db\n@@db_spec name perm\n/kept 40755\n@@end_db\n";
+const TRUSTED_OLD: &[u8] = b"@@begin_db\n@@db_spec name perm uid gid\n/kept 40755 0 0\n@@end_db\n";
 
 /// The trusted machine has the new mode of `/kept`, and no `/opened`.
-const TRUSTED_NEW: &[u8] = b"@@begin_db\n@@db_spec name perm\n/kept 40700\n@@end_db\n";
+const TRUSTED_NEW: &[u8] = b"@@begin_db\n@@db_spec name perm uid gid\n/kept 40700 0 0\n@@end_db\n";
 
 /// It has no end.
 const CUT: &[u8] = b"@@begin_db\n@@db_spec name perm\n/kept 40755\n";
@@ -25,19 +28,19 @@ const LINE: &str = "aide_lines -E -c /conf --trusted-old /trusted_old --trusted-
 
 const LINES: &[u8] = b"{\"format\":4,\"old\":\"/old\",\"new\":\"/new\",\
 \"trusted_old\":\"/trusted_old\",\"trusted_new\":\"/trusted_new\"}\n\
-{\"kind\":\"changed\",\"path\":\"/kept\",\"summary\":\"d   p             \",\
+{\"kind\":\"changed\",\"path\":\"/kept\",\"summary\":\"d   p..           \",\
 \"same_as\":\"trusted\",\"type\":\"Directory\",\"old\":{\"Perm\":\"0755\"},\
 \"new\":{\"Perm\":\"0700\"}}\n\
-{\"kind\":\"changed\",\"path\":\"/opened\",\"summary\":\"d   p             \",\
+{\"kind\":\"changed\",\"path\":\"/opened\",\"summary\":\"d   p..           \",\
 \"type\":\"Directory\",\"old\":{\"Perm\":\"0700\"},\"new\":{\"Perm\":\"0777\"}}\n\
 {\"end\":true,\
-\"old\":{\"sha256\":\"ae2e6e05d98a36a54ebb46f1fdc5d2a1dd520a09d86a99651c89c801424dac9d\",\
+\"old\":{\"sha256\":\"c33b16fbe9e3f61e0e20a1ad927c6de27052013f2ca5284a71c3acb00ae90f80\",\
 \"skipped\":[]},\
-\"new\":{\"sha256\":\"b207871e45b1a9ad648bf184c9a72efeef391d08c36515cca0161e0cbd753faf\",\
+\"new\":{\"sha256\":\"939b7e1715b5caf895b362bc6e38c24f4d1a2d35c4b48d01cd7a9e407f52674f\",\
 \"skipped\":[]},\
-\"trusted_old\":{\"sha256\":\"44cd3b378a6c59cd9d3e5a2b67a45b208d8dcd697263fcb5054e299271cc01de\",\
+\"trusted_old\":{\"sha256\":\"02d3b7ab5568ce6debef962c4df44c291bb203b6e5ad961bf5c47c280d0efd91\",\
 \"skipped\":[]},\
-\"trusted_new\":{\"sha256\":\"75bca656b3d8d9689f1b11eedd04448c4abed4d6136623722bc8e9f42e4dd5a4\",\
+\"trusted_new\":{\"sha256\":\"571c4d1988d8fb2ff2a142d9935cf68d94ccd7509441cfd46232f77b5a077660\",\
 \"skipped\":[]},\
 \"total\":2,\"added\":0,\"removed\":0,\"changed\":2,\
 \"same_as_old\":0,\"same_as_trusted\":1,\"left_out\":0,\"others\":1,\
@@ -52,18 +55,18 @@ const LISTED_LINE: &str =
 const LISTED_LINES: &[u8] =
     b"{\"format\":4,\"old\":\"/old\",\"new\":\"/new\",\"trusted_old\":\"/trusted_old\",\
 \"trusted_new\":\"/trusted_new\"}\n\
-{\"kind\":\"changed\",\"path\":\"/kept\",\"summary\":\"d   p             \",\"left_out\":2,\
+{\"kind\":\"changed\",\"path\":\"/kept\",\"summary\":\"d   p..           \",\"left_out\":2,\
 \"type\":\"Directory\",\"old\":{\"Perm\":\"0755\"},\"new\":{\"Perm\":\"0700\"}}\n\
-{\"kind\":\"changed\",\"path\":\"/opened\",\"summary\":\"d   p             \",\
+{\"kind\":\"changed\",\"path\":\"/opened\",\"summary\":\"d   p..           \",\
 \"type\":\"Directory\",\"old\":{\"Perm\":\"0700\"},\"new\":{\"Perm\":\"0777\"}}\n\
 {\"end\":true,\
-\"old\":{\"sha256\":\"ae2e6e05d98a36a54ebb46f1fdc5d2a1dd520a09d86a99651c89c801424dac9d\",\
+\"old\":{\"sha256\":\"c33b16fbe9e3f61e0e20a1ad927c6de27052013f2ca5284a71c3acb00ae90f80\",\
 \"skipped\":[]},\
-\"new\":{\"sha256\":\"b207871e45b1a9ad648bf184c9a72efeef391d08c36515cca0161e0cbd753faf\",\
+\"new\":{\"sha256\":\"939b7e1715b5caf895b362bc6e38c24f4d1a2d35c4b48d01cd7a9e407f52674f\",\
 \"skipped\":[]},\
-\"trusted_old\":{\"sha256\":\"75bca656b3d8d9689f1b11eedd04448c4abed4d6136623722bc8e9f42e4dd5a4\",\
+\"trusted_old\":{\"sha256\":\"571c4d1988d8fb2ff2a142d9935cf68d94ccd7509441cfd46232f77b5a077660\",\
 \"skipped\":[]},\
-\"trusted_new\":{\"sha256\":\"75bca656b3d8d9689f1b11eedd04448c4abed4d6136623722bc8e9f42e4dd5a4\",\
+\"trusted_new\":{\"sha256\":\"571c4d1988d8fb2ff2a142d9935cf68d94ccd7509441cfd46232f77b5a077660\",\
 \"skipped\":[]},\"total\":2,\"added\":0,\"removed\":0,\"changed\":2,\
 \"same_as_old\":0,\"same_as_trusted\":0,\"left_out\":1,\"others\":1,\
 \"list\":{\"sha256\":\"29f6dba29f6a9d2533b8493b7a32c7be8f7b2f40256b1cc21c24b4dc4b440472\"},\

@@ -1,6 +1,6 @@
 //! What a command line asks for.
 use super::session::words_of;
-use aide_session::{Job, LineJob, WordsFault, read_line_words, read_words};
+use aide_words::{Job, LineJob, WordsFault, read_line_words, read_words};
 use std::alloc::Global;
 use std::test::Fail;
 

@@ -141,16 +141,16 @@ pub(super) const GIVEN: [Given<'static>; 4] = [
         trusted_old: TRUSTED_BEFORE,
         trusted_new: TRUSTED_AFTER,
         list: b"",
-        most_held: 3 * 69,
+        most_held: 3 * 73,
         lines: BESIDE,
     },
     Given {
         old: LISTED_BEFORE,
         new: LISTED_AFTER,
-        trusted_old: b"@@begin_db\n@@db_spec name perm\n/b 40700\n/z 40700\n@@end_db\n",
-        trusted_new: b"@@begin_db\n@@db_spec name perm\n/b 40755\n/z 40755\n@@end_db\n",
+        trusted_old: TRUSTED_LISTED_BEFORE,
+        trusted_new: TRUSTED_LISTED_AFTER,
         list: b"/other\n/?\nprograms(made anew) /p\n",
-        most_held: 3 * 32,
+        most_held: 3 * 40,
         lines: LISTED,
     },
 ];
@@ -198,76 +198,82 @@ const SAME: &[u8] = b"{\"format\":4,\"old\":\"/old\",\"new\":\"/new\",\
 \"list\":{\"sha256\":\"e3b0c44298fc1c149afbf4c8996fb92427ae41e4649b934ca495991b7852b855\"},\
 \"status\":0}\n";
 
-const BEFORE: &[u8] = b"@@begin_db\n@@db_spec name attr perm size sha256\n\
-/a 536870956 100644 5 dpLDrTVAu4A8Ags67mbNiIcSMjTqDG5xQ8Ct1z/0Me0=\n\
-/gone 536870956 100644 1 dpLDrTVAu4A8Ags67mbNiIcSMjTqDG5xQ8Ct1z/0Me0=\n@@end_db\n";
+const BEFORE: &[u8] = b"@@begin_db\n@@db_spec name attr perm uid gid size sha256\n\
+/a 536870972 100644 0 0 5 dpLDrTVAu4A8Ags67mbNiIcSMjTqDG5xQ8Ct1z/0Me0=\n\
+/gone 536870972 100644 0 0 1 dpLDrTVAu4A8Ags67mbNiIcSMjTqDG5xQ8Ct1z/0Me0=\n@@end_db\n";
 
-const AFTER: &[u8] = b"@@begin_db\n@@db_spec name attr perm size sha256\n\
-/a 536870956 100644 6 P8TM/nRYcOLA2Z9x8w/wZWyN7dQcwdfT03aw2+aF4vM=\n\
-/new 536870956 100644 7 P8TM/nRYcOLA2Z9x8w/wZWyN7dQcwdfT03aw2+aF4vM=\n@@end_db\n";
+const AFTER: &[u8] = b"@@begin_db\n@@db_spec name attr perm uid gid size sha256\n\
+/a 536870972 100644 0 0 6 P8TM/nRYcOLA2Z9x8w/wZWyN7dQcwdfT03aw2+aF4vM=\n\
+/new 536870972 100644 0 0 7 P8TM/nRYcOLA2Z9x8w/wZWyN7dQcwdfT03aw2+aF4vM=\n@@end_db\n";
 
-const TRUSTED_BEFORE: &[u8] = b"@@begin_db\n@@db_spec name attr perm size sha256\n\
-/a 536870956 100644 5 dpLDrTVAu4A8Ags67mbNiIcSMjTqDG5xQ8Ct1z/0Me0=\n\
-/b 536870956 100644 9 dpLDrTVAu4A8Ags67mbNiIcSMjTqDG5xQ8Ct1z/0Me0=\n\
-/gone 536870956 100644 1 dpLDrTVAu4A8Ags67mbNiIcSMjTqDG5xQ8Ct1z/0Me0=\n@@end_db\n";
+const TRUSTED_BEFORE: &[u8] = b"@@begin_db\n@@db_spec name attr perm uid gid size sha256\n\
+/a 536870972 100644 0 0 5 dpLDrTVAu4A8Ags67mbNiIcSMjTqDG5xQ8Ct1z/0Me0=\n\
+/b 536870972 100644 0 0 9 dpLDrTVAu4A8Ags67mbNiIcSMjTqDG5xQ8Ct1z/0Me0=\n\
+/gone 536870972 100644 0 0 1 dpLDrTVAu4A8Ags67mbNiIcSMjTqDG5xQ8Ct1z/0Me0=\n@@end_db\n";
 
-const TRUSTED_AFTER: &[u8] = b"@@begin_db\n@@db_spec name attr perm size sha256\n\
-/a 536870956 100644 6 P8TM/nRYcOLA2Z9x8w/wZWyN7dQcwdfT03aw2+aF4vM=\n\
-/b 536870956 100644 8 P8TM/nRYcOLA2Z9x8w/wZWyN7dQcwdfT03aw2+aF4vM=\n@@end_db\n";
+const TRUSTED_AFTER: &[u8] = b"@@begin_db\n@@db_spec name attr perm uid gid size sha256\n\
+/a 536870972 100644 0 0 6 P8TM/nRYcOLA2Z9x8w/wZWyN7dQcwdfT03aw2+aF4vM=\n\
+/b 536870972 100644 0 0 8 P8TM/nRYcOLA2Z9x8w/wZWyN7dQcwdfT03aw2+aF4vM=\n@@end_db\n";
 
 const BESIDE: &[u8] = b"{\"format\":4,\"old\":\"/old\",\"new\":\"/new\",\
 \"trusted_old\":\"/trusted_old\",\"trusted_new\":\"/trusted_new\"}\n\
-{\"kind\":\"changed\",\"path\":\"/a\",\"summary\":\"f > .       H     \",\"same_as\":\"trusted\",\
+{\"kind\":\"changed\",\"path\":\"/a\",\"summary\":\"f > ...     H     \",\"same_as\":\"trusted\",\
 \"type\":\"File\",\"old\":{\"Size\":5,\
 \"SHA256\":\"7692c3ad3540bb803c020b3aee66cd8887123234ea0c6e7143c0add73ff431ed\"},\
 \"new\":{\"Size\":6,\
 \"SHA256\":\"3fc4ccfe745870e2c0d99f71f30ff0656c8dedd41cc1d7d3d376b0dbe685e2f3\"}}\n\
 {\"kind\":\"removed\",\"path\":\"/gone\",\"summary\":\"f-----------------\",\
-\"same_as\":\"trusted\",\"type\":\"File\",\"old\":{\"Type\":\"File\",\"Size\":1,\"Perm\":\"0644\",\
-\"SHA256\":\"7692c3ad3540bb803c020b3aee66cd8887123234ea0c6e7143c0add73ff431ed\"}}\n\
+\"same_as\":\"trusted\",\"type\":\"File\",\"old\":{\"Type\":\"File\",\"Size\":1,\"Perm\":\"0644\",\"UID\":0,\
+\"GID\":0,\"SHA256\":\"7692c3ad3540bb803c020b3aee66cd8887123234ea0c6e7143c0add73ff431ed\"}}\n\
 {\"kind\":\"added\",\"path\":\"/new\",\"summary\":\"f+++++++++++++++++\",\"type\":\"File\",\
-\"new\":{\"Type\":\"File\",\"Size\":7,\"Perm\":\"0644\",\
-\"SHA256\":\"3fc4ccfe745870e2c0d99f71f30ff0656c8dedd41cc1d7d3d376b0dbe685e2f3\"}}\n\
+\"new\":{\"Type\":\"File\",\"Size\":7,\"Perm\":\"0644\",\"UID\":0,\
+\"GID\":0,\"SHA256\":\"3fc4ccfe745870e2c0d99f71f30ff0656c8dedd41cc1d7d3d376b0dbe685e2f3\"}}\n\
 {\"end\":true,\
-\"old\":{\"sha256\":\"bdd1fcf1167b0c477d34d46720cfb56307042da1ef419e6f4d3312729c08a69f\",\
+\"old\":{\"sha256\":\"a2352e225c55901994ac07f3440a72e5ec75d3b8d701b09899ff7b5e9642bb7f\",\
 \"skipped\":[]},\
-\"new\":{\"sha256\":\"e35637e89204948d28f1cf6cea8f905f6ac46e77ec3d7099a16cff3a7bab48b6\",\
+\"new\":{\"sha256\":\"49f6393626056dea38f9a711d5ef54a93a931acde92af6af1917143cc0fe6467\",\
 \"skipped\":[]},\
-\"trusted_old\":{\"sha256\":\"c24c3f52aec9b8c003434de74d32b69692533d2ba59600370e60a273426dd773\",\
+\"trusted_old\":{\"sha256\":\"6a655fc9576dae4c8fbbeec786465eebd24e25edd53a86e9bff14691a2128463\",\
 \"skipped\":[]},\
-\"trusted_new\":{\"sha256\":\"61aad8136ce217a3f8272b4403367cac8b8ddae2c9d1b1d83c6470f03c106629\",\
+\"trusted_new\":{\"sha256\":\"40acfbacdf1cf591adc0f08113a56bc2cddf9e38ce856a805912f41847f74250\",\
 \"skipped\":[]},\
 \"total\":2,\"added\":1,\"removed\":1,\"changed\":1,\"same_as_old\":0,\
 \"same_as_trusted\":2,\"left_out\":0,\"others\":1,\
 \"list\":{\"sha256\":\"e3b0c44298fc1c149afbf4c8996fb92427ae41e4649b934ca495991b7852b855\"},\
 \"status\":7}\n";
 
-const LISTED_BEFORE: &[u8] = b"@@begin_db\n@@db_spec name perm capabilities\n\
-/a 100644 0\n/b 40700 0\n/p 100755 0\n/s 104755 0\n@@end_db\n";
+const LISTED_BEFORE: &[u8] = b"@@begin_db\n@@db_spec name perm uid gid capabilities\n\
+/a 100644 0 0 0\n/b 40700 0 0 0\n/p 100755 0 0 0\n/s 104755 0 0 0\n@@end_db\n";
 
-const LISTED_AFTER: &[u8] = b"@@begin_db\n@@db_spec name perm capabilities\n\
-/a 100600 0\n/b 40755 0\n/p 100700 0\n/s 104711 0\n@@end_db\n";
+const LISTED_AFTER: &[u8] = b"@@begin_db\n@@db_spec name perm uid gid capabilities\n\
+/a 100600 0 0 0\n/b 40755 0 0 0\n/p 100700 0 0 0\n/s 104711 0 0 0\n@@end_db\n";
+
+const TRUSTED_LISTED_BEFORE: &[u8] =
+    b"@@begin_db\n@@db_spec name perm uid gid\n/b 40700 0 0\n/z 40700 0 0\n@@end_db\n";
+
+const TRUSTED_LISTED_AFTER: &[u8] =
+    b"@@begin_db\n@@db_spec name perm uid gid\n/b 40755 0 0\n/z 40755 0 0\n@@end_db\n";
 
 const LISTED: &[u8] =
     b"{\"format\":4,\"old\":\"/old\",\"new\":\"/new\",\"trusted_old\":\"/trusted_old\",\
 \"trusted_new\":\"/trusted_new\"}\n\
-{\"kind\":\"changed\",\"path\":\"/a\",\"summary\":\"f   p             \",\"left_out\":2,\
+{\"kind\":\"changed\",\"path\":\"/a\",\"summary\":\"f   p..           \",\"left_out\":2,\
 \"type\":\"File\",\"old\":{\"Perm\":\"0644\"},\"new\":{\"Perm\":\"0600\"}}\n\
-{\"kind\":\"changed\",\"path\":\"/b\",\"summary\":\"d   p             \",\
+{\"kind\":\"changed\",\"path\":\"/b\",\"summary\":\"d   p..           \",\
 \"same_as\":\"trusted\",\"type\":\"Directory\",\"old\":{\"Perm\":\"0700\"},\
 \"new\":{\"Perm\":\"0755\"}}\n\
-{\"kind\":\"changed\",\"path\":\"/p\",\"summary\":\"f   p             \",\"left_out\":3,\
+{\"kind\":\"changed\",\"path\":\"/p\",\"summary\":\"f   p..           \",\"left_out\":3,\
 \"type\":\"File\",\"old\":{\"Perm\":\"0755\"},\"new\":{\"Perm\":\"0700\"}}\n\
-{\"kind\":\"changed\",\"path\":\"/s\",\"summary\":\"f   p             \",\"type\":\"File\",\
+{\"kind\":\"changed\",\"path\":\"/s\",\"summary\":\"f   p..           \",\"type\":\"File\",\
 \"old\":{\"Perm\":\"4755\"},\"new\":{\"Perm\":\"4711\"}}\n\
 {\"end\":true,\
-\"old\":{\"sha256\":\"d191d6f5e26fb4e6b6886d8a53570b1198a8e4a961c59eddf261fc3f2cd37e85\",\
+\"old\":{\"sha256\":\"cb2f33cc81a17dbf501d08d0202fc4e64e7c6d58391e05dd0abc0379e8b726ca\",\
 \"skipped\":[]},\
-\"new\":{\"sha256\":\"840214cb4a5b64c88f4a4b384d012ff5090eb438204a892d05cb5cde2c7a604f\",\
+\"new\":{\"sha256\":\"3b40a549541fa61f75c44c097a1d8f7f23cabeaf3d00ea596b91e8c89b1f3afb\",\
 \"skipped\":[]},\
-\"trusted_old\":{\"sha256\":\"d75b4ca0c739e2c607522544e788118974cfdd148f9918634a087c771bcafac0\",\
+\"trusted_old\":{\"sha256\":\"2b757099a0d9dfe3cca0ca5e45ae4d1166b59ce963d36daf4cb9cae7462e2b44\",\
 \"skipped\":[]},\
-\"trusted_new\":{\"sha256\":\"a6592c3fcce711ef860671001af30a3ddc14d4d87125db280b22bee40a7a701f\",\
+\"trusted_new\":{\"sha256\":\"b2b734d897df6fa83a0b832c449c8a6892f8164aa1a7d3db3c3844b5ac82f121\",\
 \"skipped\":[]},\
 \"total\":4,\"added\":0,\"removed\":0,\"changed\":4,\"same_as_old\":0,\"same_as_trusted\":1,\
 \"left_out\":2,\"others\":1,\

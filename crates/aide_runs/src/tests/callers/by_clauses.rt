@@ -1,18 +1,21 @@
 //! Callers of `session_on` and `lines_session_on` that take each promise out of its record.
 ghost use Rattle.std.specs.Prelude.{◌≡◌, ◌≤◌, ◌⊎◌, true, None};
-ghost use Rattle.aide_db.specs.Count.{one_more};
-ghost use Rattle.aide_report.specs.Failures.{Rose};
-ghost use Rattle.aide_session.specs.Answer.{Answer, IsAnswerBy, Named};
-ghost use Rattle.aide_session.specs.Closing.{ClosesBy, course_between};
-ghost use Rattle.aide_session.specs.Ends.{Ends, HasFailed, Starved, Whole, sinks_between};
-ghost use Rattle.aide_session.specs.Existence.{HasSessionAnswerBy, TellsNamed};
-ghost use Rattle.aide_session.specs.Put.{HasNoFailure};
+ghost use Rattle.aide_entry.specs.Count.{one_more};
+ghost use Rattle.aide_text.specs.Failures.{Rose};
+ghost use Rattle.aide_site.specs.Answer.{Answer, IsAnswerBy, Named};
+ghost use Rattle.aide_site.specs.Closing.{ClosesBy, course_between};
+ghost use Rattle.aide_site.specs.Ends.{Ends, HasFailed, Starved, Whole, sinks_between};
+ghost use Rattle.aide_site.specs.Existence.{HasSessionAnswerBy, TellsNamed};
+ghost use Rattle.aide_site.specs.Put.{HasNoFailure};
 ghost use Rattle.aide_words.specs.LineJob.{line_job_of};
 ghost use Rattle.aide_words.specs.Job.{job_of};
 
 use aide_db::Desk;
-use aide_report::Sink;
-use aide_session::{Site, SiteWithDesk, Words, lines_session_on, session_on};
+use aide_line_session::lines_session_on;
+use aide_report_session::session_on;
+use aide_site::{Site, SiteWithDesk};
+use aide_text::Sink;
+use aide_words::Words;
 use std::alloc::Global;
 
 /// Runs a session that writes the report.

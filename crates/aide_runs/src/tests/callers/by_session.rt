@@ -1,6 +1,8 @@
 //! A caller of `session`. It runs a command line over files in memory, as the program does over files of the machine.
-use aide_report::MemorySink;
-use aide_session::{Memory, MemorySite, Words, session};
+use aide_report_session::session;
+use aide_site::MemorySite;
+use aide_text::MemorySink;
+use aide_words::{Memory, Words};
 use std::alloc::Global;
 
 /// The results of a session.

@@ -1,7 +1,7 @@
 //! The lines of two configurations, written by hand.
-use crate::put_settings_line;
 use aide_attr::{Attr, AttrSet, Ignore, Level};
 use aide_conf::Options;
+use aide_line_text::put_settings_line;
 use aide_text::{MemorySink, Pen};
 use std::alloc::Global;
 use std::process::Abort;
