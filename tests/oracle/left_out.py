@@ -12,7 +12,9 @@ from .database import parts_of
 from .texts import lines_of
 
 SETTINGS = b"/etc/aide-compare"
-LONGEST_PATH = 4096
+# AIDE sees no path of more than 4,095 bytes. Below a directory of a left out change it sees all: a
+# slash and a name of 255 bytes still fit.
+LONGEST_PATH = 4095 - 1 - 255
 # The types that there are, by their bits.
 FIFO, CHARACTER, DIRECTORY, BLOCK, FILE, LINK, SOCKET = 1, 2, 4, 6, 8, 10, 12
 TYPES = (FIFO, CHARACTER, DIRECTORY, BLOCK, FILE, LINK, SOCKET)
@@ -69,8 +71,15 @@ def may_others_write(entry: Entry) -> bool:
     return type_of(entry) == DIRECTORY and bool(mode_of(entry) & OTHERS_WRITE)
 
 
+def knows_writers(entry: Entry) -> bool:
+    return entry is not None and "u" in entry and ("g" in entry or not may_others_write(entry))
+
+
 def gains_writers(old: Entry, new: Entry) -> bool:
-    """Whether somebody may write a directory who could not before."""
+    """Whether somebody may write a directory who could not before. Without its owner, or without
+    its group if others may write it, this may be anybody."""
+    if type_of(new) == DIRECTORY and not knows_writers(new):
+        return True
     if old is None or new is None or type_of(old) != DIRECTORY or type_of(new) != DIRECTORY:
         return may_others_write(new)
     names = ["u"]

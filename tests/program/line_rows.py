@@ -215,57 +215,6 @@ ACCOUNTS = [
     (b"perm mtime", [FIFO, b"1"], [FIFO, b"2"], True),
 ]
 
-# Entries of one path: a file with one content or another one, at one time or another one, a file
-# without a digest, a directory, a device, and files with the digests of two columns.
-PAIR_COLUMNS = b"perm mtime lcount sha256 sha512"
-ONE = [FILE, b"1", b"1", ZEROS[32], b"0"]
-TWO = [FILE, b"2", b"1", ONES[32], b"0"]
-TWO_LATER = [FILE, b"3", b"1", ONES[32], b"0"]
-THREE = [FILE, b"2", b"1", base64.b64encode(bytes([3]) * 32), b"0"]
-SET_ID = [b"104755", b"2", b"1", ONES[32], b"0"]
-EMPTIED = [FILE, b"2", b"1", b"0", b"0"]
-FIVE_LINKS = [DIRECTORY, b"1", b"5", b"0", b"0"]
-SIX_LINKS = [DIRECTORY, b"2", b"6", b"0", b"0"]
-DEVICE = [b"20666", b"1", b"1", b"0", b"0"]
-LONG = [FILE, b"1", b"1", b"0", ZEROS[64]]
-OTHER_LONG = [FILE, b"2", b"1", b"0", ONES[64]]
-BOTH_DIGESTS = [FILE, b"2", b"1", ZEROS[32], ONES[64]]
-
-# What happened, the old and the new entry, those of a trusted machine, and whether it accounts for
-# the change.
-TRUSTED = [
-    ("it changed on both", ONE, TWO, ONE, TWO_LATER, True),
-    ("it changed on both, from another one", THREE, TWO, ONE, TWO, True),
-    ("it came to the trusted machine", ONE, TWO, None, TWO_LATER, True),
-    ("it came to the host", None, TWO, ONE, TWO_LATER, True),
-    ("it came to both", None, SET_ID, None, SET_ID, True),
-    ("it went from both", TWO, None, TWO_LATER, None, True),
-    ("a directory got a link on both", FIVE_LINKS, SIX_LINKS, FIVE_LINKS, SIX_LINKS, True),
-    ("the trusted one got a digest", ONE, TWO, EMPTIED, TWO_LATER, True),
-    ("it changed, and was so for ever there", ONE, TWO, TWO, TWO, False),
-    ("it changed, and but for times was so for ever there", ONE, TWO, TWO, TWO_LATER, False),
-    ("it came, and was there for ever", None, SET_ID, SET_ID, SET_ID, False),
-    ("it came, and but for times was there for ever", None, TWO, TWO_LATER, TWO, False),
-    (
-        "a directory got a link that it always had there",
-        FIVE_LINKS,
-        SIX_LINKS,
-        SIX_LINKS,
-        SIX_LINKS,
-        False,
-    ),
-    ("the trusted one got another digest", LONG, OTHER_LONG, ONE, BOTH_DIGESTS, False),
-    ("another one came there", None, TWO, None, THREE, False),
-    ("it went, and is still there", ONE, None, ONE, ONE, False),
-    ("it went, and was never there", ONE, None, None, None, False),
-    ("it went, and came there", ONE, None, None, ONE, False),
-    ("it went, and another one there", ONE, None, TWO, None, False),
-    ("it went, and one without a digest there", EMPTIED, None, EMPTIED, None, False),
-    ("it went, and one with another mode there", SET_ID, None, TWO, None, False),
-    ("a device came to both", None, DEVICE, None, DEVICE, False),
-    ("a device went from both", DEVICE, None, DEVICE, None, False),
-]
-
 # Configurations, and what is said of them.
 SETTINGS = [
     (

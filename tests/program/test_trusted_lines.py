@@ -19,7 +19,7 @@ from tests.oracle.database import order_of
 from tests.oracle.files import wanted_lines
 from tests.oracle.lines import LINES_USAGE
 from tests.oracle.session import USAGE_LINE
-from tests.program import cases, line_rows
+from tests.program import cases, happened_rows, line_rows
 from tests.program.random_sessions import make_session_beside, try_sessions
 from tests.program.random_texts.trusted import FAULTY, NAMED
 from tests.program.real_files.test_devices import check_outputs
@@ -65,33 +65,55 @@ class TrustedTest(LinesProgramTest):
             for line in want.output.splitlines():
                 self.add("the schema at " + label, VALIDATOR.faults(json.loads(line)))
 
-    def is_accounted(self, label: str, four: list[bytes], accounts: bool) -> None:
-        """The lines over one path, which a trusted entry accounts for or not."""
+    def is_accounted(self, label: str, four: list[bytes], account: str | None) -> None:
+        """The lines over one path, and what accounts for its change."""
         with Folder() as folder:
             words = folder.put(four)
             answer = run(self.lines_program, words)
             self.check(label, answer, wanted_lines(words))
         first, entry, last = (json.loads(line) for line in answer.output.splitlines())
-        counts = (entry.get("same_as"), last["same_as_trusted"], last["others"])
-        self.holds(label, counts == (("trusted", 1, 0) if accounts else (None, 0, 1)), counts)
+        counts = [entry.get("same_as")]
+        counts += [last[name] for name in ("same_as_old", "same_as_trusted", "others")]
+        wanted = [account] + [int(account == each) for each in ("old", "trusted", None)]
+        self.holds(label, counts == wanted, counts)
         for line in (first, entry, last):
             self.add(f"the schema at {line}", VALIDATOR.faults(line))
 
     def test_accounts(self) -> None:
         """Whether a trusted entry accounts for one that came; turned round it is the same."""
         for columns, one, other, is_same in line_rows.ACCOUNTS:
-            sides = [database(columns, b" ".join(fields)) for fields in (one, other)]
+            owned = [name for name in (b"uid", b"gid") if name not in columns.split()]
+            columns = b" ".join([columns, *owned])
+            sides = [
+                database(columns, b" ".join(fields + [b"0"] * len(owned)))
+                for fields in (one, other)
+            ]
             for came, trusted in (sides, sides[::-1]):
-                self.is_accounted(shown(trusted), [EMPTY, came, EMPTY, trusted], is_same)
+                four = [EMPTY, came, EMPTY, trusted]
+                self.is_accounted(shown(trusted), four, "trusted" if is_same else None)
+
+    def try_rows(self, rows: list[happened_rows.Row]) -> None:
+        columns = " ".join(happened_rows.COLUMNS).encode()
+        for label, entries, account in rows:
+            four = [database(columns, b" ".join(fields)) if fields else EMPTY for fields in entries]
+            self.is_accounted(label, four, account)
+
+    def test_unknown(self) -> None:
+        """What AIDE was not asked for is equal to nothing."""
+        self.try_rows(happened_rows.UNKNOWN)
 
     def test_what_happened(self) -> None:
         """A trusted machine accounts for what happened there, and not for what it always had."""
-        for label, *entries, accounts in line_rows.TRUSTED:
-            four = [
-                database(line_rows.PAIR_COLUMNS, b" ".join(fields)) if fields else EMPTY
-                for fields in entries
-            ]
-            self.is_accounted(label, four, accounts)
+        self.try_rows(happened_rows.STOOD)
+        self.try_rows(happened_rows.BOTH)
+
+    def test_comes_by_another_step(self) -> None:
+        """No right and no path is new here, and no content, but by the same step there."""
+        self.try_rows(happened_rows.ATTACKS)
+
+    def test_contents_that_came_there(self) -> None:
+        """What stays silent, though it may be an attack."""
+        self.try_rows(happened_rows.TOLD)
 
     def test_patterns(self) -> None:
         """Each pattern of one or two components, or of none, over each path of one or two names."""

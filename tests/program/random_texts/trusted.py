@@ -16,8 +16,8 @@ DIGESTS = [column for column, form in FORMS.items() if isinstance(form, tuple)]
 # What each machine has of its own, and what a directory has besides.
 OWN = [b"atime", b"mtime", b"ctime", b"inode", b"bcount"]
 OF_DIRECTORIES = [b"size"]
-# Columns without which few entries agree.
-USUAL = [b"perm", b"sha256", b"mtime"]
+# Columns without which no entries agree, or few.
+USUAL = [b"perm", b"uid", b"gid", b"sha256", b"mtime"]
 MODES = [0o100644, 0o100644, 0o100755, 0o104755, 0o40755, 0o40775, 0o120777, 0o20600]
 # Names in patterns, and lines of a list that have a fault.
 NAMED = [b"a", b"b", b"*", b"**", b"?", b"[a-c]", b"[!a]*", b"\\a", b"\\*", b".*"]
@@ -29,11 +29,11 @@ CONTENTS = [bytes([number] * 32) for number in range(3)]
 
 
 def usual_columns(pick: random.Random) -> Columns:
-    """Columns of which most have a type, a strong digest and a time."""
+    """Columns of which most have a type, an owner, a strong digest and a time."""
     columns = random_columns(pick)
     known = [column for column, _ in columns]
     for column in USUAL:
-        if column not in known and pick.random() < 0.9:
+        if column not in known and pick.random() < 0.95:
             columns.append((column, FORMS[column]))
     return columns
 
@@ -43,6 +43,8 @@ def usual_entries(pick: random.Random, columns: Columns) -> Rows:
     entries = random_entries(pick, columns)
     for row in entries.values():
         row[b"perm"] = pick.choice(MODES)
+        row[b"uid"] = pick.choice([0, 0, 33])
+        row[b"gid"] = pick.choice([0, 0, 33])
         if pick.random() < 0.9:
             row[b"sha256"] = pick.choice(CONTENTS)
         if row[b"perm"] >> 12 == 0o12:
