@@ -66,6 +66,7 @@ class Built:
         self.files: dict[bytes, tuple[bytes, int]] = {}
         self.links: dict[bytes, bytes] = {}
         self.fields = ""
+        self.written = 0  # When its files were written; 0 is now.
         self.more = 0  # Bytes of a last part, which dpkg passes over.
 
     def file(self, path: bytes, content: bytes, mode: int = 0o644) -> Built:
@@ -93,6 +94,8 @@ class Built:
             with open(place, "wb") as file:
                 file.write(content)
             os.chmod(place, mode)
+            if self.written:
+                os.utime(place, (self.written, self.written))
         for path, target in self.links.items():
             os.symlink(target, os.fsencode(tree) + path)
         for folder, _, _ in os.walk(tree):
