@@ -52,6 +52,29 @@ class ArchiveTest(ArchiveCase):
         place.new.file(LIBRARY, b"of another version\n")
         place.expect(answer, "open", b"/usr/bin/plain", LIBRARY)
 
+    def test_index_of_a_directory(self) -> None:
+        """The file system sets this flag of a directory, and no other one."""
+        place = self.place
+        place.sign()
+        extents, indexed, immutable = 0x80000, 0x1000, 0x10
+        rows = {
+            b"/srv/grown": (0o40755, extents | indexed, "trusted"),
+            b"/srv/immutable": (0o40755, extents | indexed | immutable, "open"),
+            b"/srv/bare": (0o40755, indexed, "open"),
+            b"/srv/writable": (0o40777, extents | indexed, "open"),
+            b"/srv/file": (0o100644, extents | indexed, "open"),
+        }
+        for path, (mode, flags, _) in rows.items():
+            for night, more in ((place.old, extents), (place.new, flags)):
+                rights = mode if night is place.new else mode & 0o7777755
+                if mode >> 12 == 8:
+                    night.file(path, b"", rights, e2fsattrs=more)
+                else:
+                    night.directory(path, rights, e2fsattrs=more)
+        answer = self.applied()
+        for path, (_, _, want) in rows.items():
+            place.expect(answer, want, path)
+
     def test_path_of_two(self) -> None:
         """A path that two packages have stays open, whichever content it has."""
         place = self.place

@@ -5,23 +5,23 @@ import io
 import os
 from collections.abc import Container, Iterable, Sequence
 
-from aide_compare.base.database import ABSENT, refuse_terminal
+from aide_compare.base.database import refuse_terminal
 from aide_compare.base.ending import DeviceFault, Fault, Status, say, usage_fault, write_blocks
 from aide_compare.base.escapes import shown
 from aide_compare.base.files import blocks_of, in_memory, trusted_text
 from aide_compare.base.options import MAX_SIZE, QUIET, USER, Asked, Operand, field, option
 from aide_compare.base.parser import Help, read
-from aide_compare.base.paths import key_of_path, path_of, unescaped
+from aide_compare.base.paths import key_of_path
 from aide_compare.base.processes import limit_memory, limit_time
 from aide_compare.base.replacement import replace_by_copy
 from aide_compare.base.rights import become_owner, give_up
 from aide_compare.base.words import counted
-from aide_compare.changes.applied import INFO, KEPT, FieldsByColumn, Upgrades
-from aide_compare.changes.applied import content_of, fits, upgraded
+from aide_compare.changes.applied import KEPT, Upgrades, content_of, fits, upgraded
+from aide_compare.changes.night import APTS_LISTS, Entries, Night, changed
+from aide_compare.changes.scripts import take_certificates, take_compiled
 from aide_compare.changes.signed import Catalog, releases_of
 from aide_compare.changes.usr import MERGED
 from aide_compare.commands.defaults import machines_databases
-from aide_compare.compare.kept_open import OLD_SIDE, EntryReader
 from aide_compare.compare.soundness import refuse_unsound
 from aide_compare.compare.unpack import Copy, copy_database
 
@@ -40,7 +40,6 @@ KEYRINGS = (
     "/usr/share/keyrings/debian-archive-keyring.gpg",
     "/usr/share/keyrings/ubuntu-archive-keyring.gpg",
 )
-APTS_LISTS = "/var/lib/apt/lists"
 ARMOR = b"-----BEGIN PGP"  # As apt also takes it.
 MAX_MEMORY = 512 << 20
 MAX_SECONDS = 1800
@@ -79,42 +78,6 @@ class ArchiveRequest(Asked):
     user: str | None = field(USER)
 
 
-# Entries of a database, by their paths or by the names of packages.
-Entries = dict[str, FieldsByColumn]
-
-
-class Night:
-    """What a database has at some paths; of the lists and digests of packages, by dpkg's own names
-    of these; of the files of packages that apt keeps; and the names of apt's indexes."""
-
-    def __init__(self, copy: Copy, paths: Container[str]) -> None:
-        self.named: Entries = {}
-        self.lists: Entries = {}
-        self.sums: Entries = {}
-        self.files: Entries = {}
-        self.indexes: set[str] = set()
-        reader = EntryReader(copy)
-        for key, _, line in reader.entries(OLD_SIDE):
-            path = os.fsdecode(path_of(key))
-            directory, name = os.path.split(path)
-            own, ending = os.path.splitext(name)
-            if path in paths:
-                self.named[path] = reader.fields(line)
-            elif directory + "/" == INFO and ending == ".list":
-                self.lists[own] = reader.fields(line)
-            elif directory + "/" == INFO and ending == ".md5sums":
-                self.sums[own] = reader.fields(line)
-            elif directory + "/" == KEPT and ending == ".deb":
-                self.files[name] = reader.fields(line)
-            elif directory == APTS_LISTS:
-                self.indexes.add(name)
-        self.whole = self.lists.keys() & self.sums.keys()
-
-    def link(self, path: bytes) -> bytes:
-        """Where one of the paths points to; what AIDE writes for none if it is no link."""
-        return unescaped(self.named.get(path.decode(), {}).get("lname", ABSENT))
-
-
 def keys_of(path: str, file: str, nights: Sequence[Night]) -> bytes:
     """The keys of a keyring. If a database has its path, or that of the file to which this leads,
     both have the file as it is."""
@@ -132,11 +95,6 @@ def keys_of(path: str, file: str, nights: Sequence[Night]) -> bytes:
 def say_each(words: str, names: Iterable[str]) -> None:
     for name in sorted(names):
         say(f"{words}: {shown(name)}")
-
-
-def changed(old: Entries, new: Entries) -> Entries:
-    """The new entries that the old database has otherwise, or not at all."""
-    return {name: entry for name, entry in new.items() if old.get(name) != entry}
 
 
 def own_of(file: str) -> tuple[str, str]:
@@ -196,6 +154,10 @@ def upgrades_of(old_copy: Copy, new_copy: Copy, request: ArchiveRequest) -> Upgr
     upgrades = Upgrades(old.link, request.directories)
     take_packages(upgrades, catalog, sums, came)
     take_files(upgrades, catalog, gone)
+    take_compiled(upgrades, old, new)
+    take_certificates(upgrades, old, new)
+    upgrades.take_removed(old.lists, old_copy, new_copy)
+    upgrades.set_aside = new.set_aside
     removed = (old.lists.keys() - new.lists.keys()) | (old.sums.keys() - new.sums.keys())
     say_each("not applied, it is new", halves - came)
     say_each("not applied, it was removed", removed)
