@@ -15,6 +15,13 @@ OLD = (
     b"@@begin_db\n@@db_spec name attr perm fstype size\n/b 36 40755 ext4 4096\n"
     b"/c 36 100644 ext4 5\n" + END
 )
+# The same with an owner and a group, without which no entry is as another one.
+OWNED = (
+    OLD.replace(b"size\n", b"size uid gid\n")
+    .replace(b" 36 ", b" 60 ")
+    .replace(b" 4096\n", b" 4096 0 0\n")
+    .replace(b" 5\n", b" 5 0 0\n")
+)
 
 
 def with_column(text: bytes, name: bytes) -> bytes:
@@ -102,5 +109,6 @@ class ColumnsTest(CommandTest):
         self.expect("a mail by hand", mail.call(self, "o.db", "same.db"), 0, b"", b"")
         self.assertIsNone(mail.sent(self), "none is sent by hand")
         os.remove(self.path("state"))
-        self.write("odd.db", OLD.replace(b"fstype", b"\xc3\xa9:x").replace(b"4096", b"9"))
+        self.write("o.db", OWNED)
+        self.write("odd.db", OWNED.replace(b"fstype", b"\xc3\xa9:x").replace(b"4096", b"9"))
         self.mails("odd.db", "1 change, all silent; the columns fstype, ??x are not compared")

@@ -15,6 +15,7 @@ from tests.lib.program_test import slow
 
 from . import mail
 from .sandbox import CommandTest, END, TIME_LIMIT
+from .test_fleet import Fleet
 from tests.commands.viewers.pages import data_in
 
 TOOL = "aide-compare"
@@ -28,6 +29,7 @@ ROOTS = [
 ]
 ADDED, REMOVED = ROOTS[0:5:4], ROOTS[3]
 SHELL = b"/var/www/html/shell.php"
+ERRORS = "store/hosts/www/errors"
 
 
 Line = tuple[bytes, bytes]
@@ -174,7 +176,7 @@ class FloodsTest(CommandTest):
         """If nobody can judge them, what changed or went comes first; each folder has a share."""
         mail.prepare(self)
         long = b"/home/anna/" + b"n" * 200
-        self.write_night([entry(long + b"%04d" % number, owner=1000) for number in range(5000)])
+        self.write_night([entry(long + b"%04d" % number, attr=ATTR & ~8) for number in range(5000)])
         self.set_names("base.options", MAX_REPORT_BYTES=1 << 20)
         text = self.mailed()
         # The lines of the flood come first, and those that follow were cut.
@@ -185,6 +187,52 @@ class FloodsTest(CommandTest):
         self.assertIn(b" more\n", text)
         self.assertIn(b"5003 added", text)
         self.assertIn(b"the changes have more than 1048576", text, "why they were not judged")
+
+    def test_crowd(self) -> None:
+        """Who is not root makes more changes, or longer lines, than are kept: what is root's is
+        judged all the same, and the others are counted by kind and standing."""
+        mail.prepare(self)
+        long = b"/home/anna/" + b"n" * 200
+        crowd = [entry(long + b"%04d" % number, owner=1000) for number in range(5000)]
+        crowd += [
+            entry(b"/home/bob/" + b"n" * 200 + b"%03d" % number, owner=1) for number in range(9)
+        ]
+        self.write_night(crowd)
+        for module, names, said, high in (
+            ("base.options", {"MAX_REPORT_BYTES": 1 << 20}, b"than 1048576 bytes", True),
+            ("changes.table", {"MAX_ROWS": 1000}, b"", False),
+        ):
+            self.replaced.clear()
+            self.set_names(module, **names)
+            text = self.mailed().replace(b"\n  are too", b" are too")
+            for path in ROOTS:
+                self.assertIn(path + b": ", text, names)
+            found = re.search(
+                rb"([0-9]+) changes in which no side is root's are only counted", text
+            )
+            self.assertIn(int(found[1]) if found else 0, range(2000, 4100), text)
+            counts = re.search(rb"^5016 open \(([0-9]+) high\) of 5016 changes", text)
+            self.assertEqual(counts and int(counts[1]) > 2000, high, text)
+            answer = self.call("aide-compare page", "night.old", "night.new")
+            remarks = " ".join(data_in(answer.output)["heading"]["remarks"])
+            self.assertIn("changes in which no side is root's are only counted", remarks)
+            answer = self.call("aide-compare json", "night.old", "night.new")
+            self.expect("the lines of all", answer, 18 if said else 7, None, said or None)
+            self.assertEqual(answer.output.count(b"\n"), 0 if said else 5018, "no line is missing")
+
+    def test_crowd_of_host(self) -> None:
+        """The same on a host that a collector compares, within a hundredth of the lines."""
+        crowd = [entry(b"/home/anna/%04d" % number, owner=1000) for number in range(3000)]
+        self.write_night(crowd)
+        fleet = Fleet(self)
+        fleet.put("www", self.read("night.new"), self.read("night.old"))
+        self.set_names("hosts.host_comparison", MAX_JUDGED=10000)
+        said = fleet.compare_one("www")
+        self.assertRegex(said.output_text, r"www 7 .*: 3007 open \([0-9]+ high\) of 3007 changes")
+        report = fleet.call("aide-compare hosts report", self.write("one", "www\n")).output_text
+        for path in ROOTS:
+            self.assertIn(f" File: {path.decode()}\n", report)
+        self.assertIn(b"in which no side is root's are only counted", self.read(ERRORS))
 
     def test_same_content(self) -> None:
         """An entry with all that it had but times and inode is the same, by a digest of 256 bits of

@@ -33,6 +33,9 @@ WATCHERS = (
     *(b"/run/systemd/system/aide-.service.d/x.conf", b"/run/systemd/transient/service.d/x.conf"),
     *(b"/usr/lib/systemd/system/aide-compare.timer", b"/usr/lib/systemd/system/timer.d/x.conf"),
     b"/usr/local/lib/systemd/system/aide-compare.service",
+    *(b"/usr/lib/systemd/system/dailyaidecheck.service", b"/usr/share/aide-compare/severity.conf"),
+    b"/etc/systemd/system/dailyaidecheck.timer.d/x.conf",
+    b"/usr/local/share/aide-compare/severity.conf",
 )
 NO_WATCHERS = (
     *(b"/etc/aide-comparer", b"/etc/aider/x", b"/etc/systemd/system/ssh.service.d/x.conf"),

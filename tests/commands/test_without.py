@@ -2,13 +2,13 @@
 and who may write the file."""
 from __future__ import annotations
 
-import base64
-import hashlib
 import json
 import os
 
 from tests.lib.answer import Answer
 from tests.lib.scratch import read
+
+from aide_compare.hosts.store import CAUSE, ERRORS, LINES, LOCK, NEW_FILE
 
 from . import mail
 from . import test_standings as standings
@@ -73,7 +73,8 @@ HIDDEN = """
     /run/systemd/inaccessible/chr /var/spool/postfix/pid/unix.bounce
     /var/spool/postfix/pid/inet.smtp /run/reboot-required /run/reboot-required.pkgs
     /var/cache/apt/pkgcache.bin.hSWiF9 /var/cache/apt/srcpkgcache.bin.0aZ9bY /run/sshd
-    /run/systemd/propagate/man-db.service /run/ubuntu-advantage/notices
+    /run/systemd/propagate/man-db.service /run/ubuntu-advantage/notices /dev/cdrom /dev/dvd /dev/rtc
+    /dev/disk/by-uuid/3255683f /dev/shm/x /dev/char/1:3 /var/cache/man/cat8/CACHEDIR.TAG
 """
 # Accounts, keys, programs, settings of aide-compare, what apt runs as root or a program loads from
 # /var/cache, what is in homes there, and what something below /run obeys.
@@ -98,14 +99,19 @@ SEEN = """
     /var/spool/postfix/pid /var/spool/postfix/pid/x /var/spool/postfix/private/bounce /var/log/.x
     /var/log/apt/.x/y /dev/shm/.x /run/.x.pid /run/user/0/gnupg/.x /root/.bashrc /root/.profile
     /root/.vimrc /root/.lesskey /home/anna/.ssh/rc /home/anna/x/.bash_history
-    /home/anna/.bash_logout /run/sshd/x /run/systemd/propagate/x/y
+    /home/anna/.bash_logout /run/sshd/x /run/systemd/propagate/x/y /dev/fd /dev/stdin /dev/log
+    /dev/core /dev/x /dev /var/cache/man/CACHEDIR.TAG
 """
-
-
-def list_database(path: bytes, column: bytes, digest: bytes) -> bytes:
-    """A database that has a list, with its digest in a column."""
-    head = b"@@begin_db\n@@db_spec name attr perm size %s\n" % column
-    return head + b"%s 4194340 100644 1 %s\n" % (path, digest) + END
+# The same of a list for a collector.
+KEPT_OF_HOSTS = """
+    /var/lib/aide-compare/hosts/www/%s /var/lib/aide-compare/states/www
+    /var/lib/aide-compare/canary /var/lib/aide-compare/report.quiet
+"""
+BASELINES = """
+    /var/lib/aide-compare/hosts/www/aide.db /var/lib/aide-compare/hosts/www/aide.db.previous
+    /var/lib/aide-compare/hosts /var/lib/aide-compare/hosts/www /etc/aide-compare/hosts
+    /var/lib/aide-compare/hosts/www/x /var/lib/aide-compare/states
+"""
 
 
 class WithoutTest(CommandTest):
@@ -250,37 +256,44 @@ class WithoutTest(CommandTest):
         self.expect("a large list", self.call(JSON, "--exclude-from", "almost", "o.db", "n.db"), 7)
 
     def test_shipped(self) -> None:
-        """The shipped file is read. What programs write each night is left out, and nothing that
-        anything runs or obeys."""
-        hidden, seen = (text.encode().split() for text in (HIDDEN, SEEN))
-        paths = sorted(hidden + seen, key=lambda path: path.split(b"/"))
-        text = files(dict.fromkeys(paths, 1))
-        self.write("list", read("contrib/aide/debian.without"))
-        self.assertEqual(set(self.seen(text, "--exclude-from", "list")), set(seen))
+        """The shipped files are read. What programs write each night is left out, and nothing that
+        anything runs or obeys; of a collector no baseline."""
+        names = (NEW_FILE, LINES, ERRORS, CAUSE, LOCK)
+        kept = "".join(KEPT_OF_HOSTS % name for name in names)
+        for name, *texts in (
+            ("aide/debian.without", HIDDEN, SEEN),
+            ("fleet/collector.without", kept, BASELINES),
+        ):
+            hidden, seen = (set(text.encode().split()) for text in texts)
+            paths = sorted(hidden | seen, key=lambda path: path.split(b"/"))
+            text = files(dict.fromkeys(paths, 1))
+            self.write("list", read(f"contrib/{name}"))
+            self.assertEqual(set(self.seen(text, "--exclude-from", "list")), seen)
 
-    def test_changed_list(self) -> None:
-        """A list that is not as in the old database is reported, even if nothing differs."""
-        text = b"/var/log/**\n"
-        path = os.fsencode(self.write("list:~", text))
-        os.symlink("list:~", self.path("link"))
-        rows = [(b"/elsewhere", "sha256", b"0", False), (path, "sha256", b"0", False)]
-        for name in ("sha256", "sha512"):
-            for other in (b"", b"/etc/**\n"):
-                digest = base64.b64encode(hashlib.new(name, text + other).digest())
-                rows.append((path, name, digest, bool(other)))
-        for file in (self.path("link"), self.write("etc/defaults", "--databases 1.db 2.db\n")):
-            rows.append((os.fsencode(file), *rows[-1][1:]))
-        for listed, name, digest, is_said in rows:
-            # AIDE writes more bytes with escapes than it has to.
-            written = list_database(listed.replace(b":~", b"%3A%7E"), name.encode(), digest)
-            behind = written.splitlines()[2].replace(digest, b"of-no-entry")
-            for database in ("1.db", "2.db"):
-                self.write(database, written + behind + b"\n")
-            ways = [["link"], ["list:~"], [os.fsdecode(path), "--exclude", "/etc/**"]]
-            for words in ways if is_said and name == "sha512" else ways[:1]:
-                answer = self.call("aide-compare", "--exclude-from", *words, "1.db", "2.db")
-                is_due = is_said and (not listed.endswith(b"link") or "link" in words)
-                was_said = b", which decides what is silent, has changed since" in answer.errors
-                self.assertEqual((answer.status, was_said), (0, is_due), answer)
-        answer = self.call("aide-compare", "2.db", "1.db")
-        self.assertNotIn(b"has changed", answer.errors, "a pair that the defaults do not name")
+    def test_member(self) -> None:
+        """A directory whose links changed names the directory that came or went there, though the
+        change of that is left out."""
+        head = b"@@begin_db\n@@db_spec name attr perm uid gid lcount\n"
+        line = b"%s 2076 40755 0 0 %d\n"
+        logs = ((b"/opt", 3, 4), (b"/opt/x", 2, 3), (b"/var/log", 9, 10), (b"/var/log/apt", 2, 2))
+        old = [line % (path, before) for path, before, _ in logs]
+        new = [line % (path, after) for path, _, after in logs]
+        old.insert(2, line % (b"/srv", 3))
+        new.insert(2, line % (b"/srv", 2))
+        old.insert(3, line % (b"/srv/gone", 2))
+        new.insert(3, line % (b"/srv2", 2))
+        new.append(line % (b"/var/log/my%20sql\\", 2))
+        new.append(line % (b"/var/log/z", 2))
+        self.write("1.db", head + b"".join(old) + END)
+        self.write("2.db", head + b"".join(new) + END)
+        words = ("--exclude", "/var/log/**", "--exclude", "/srv/**", "1.db", "2.db")
+        text = self.call("aide-compare", *words).output_text
+        for want in (
+            "changed  /var/log: links 9 -> 10, added my sql\\134 (left out)\n",
+            "changed  /srv: links 3 -> 2, removed gone (left out)\n",
+            "changed  /opt: links 3 -> 4\n",
+        ):
+            self.assertIn(want, text)
+        mail.prepare(self)
+        mail.call(self, *words)
+        self.assertIn(b"/srv: links 3 -> 2, removed gone (left out)", mail.body(mail.sent(self)))

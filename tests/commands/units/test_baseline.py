@@ -28,6 +28,7 @@ NAME = "aide.db"
 KEPT = "aide.db.previous"
 MARK = ".aide.db.new"
 PART = ".aide.db.part"
+LOCK = ".aide.db.lock"
 
 
 @contextlib.contextmanager
@@ -36,7 +37,7 @@ def opened(path: str) -> Iterator[Baseline]:
     try:
         yield made
     finally:
-        os.close(made.directory)
+        made.close()
         if made.former:
             os.close(made.former.fd)
 
@@ -130,8 +131,38 @@ class BaselineTest(ModuleTest):
         self.fails(15, "name of a file: -", Baseline, "-")
 
     def test_lock(self) -> None:
+        """It is a file that only its owner can open, and that goes with the lock: who may only read
+        the directory cannot keep it locked."""
+        self.fresh(base=b"old")
+        reading = os.open(self.root, os.O_RDONLY)
+        self.addCleanup(os.close, reading)
+        fcntl.flock(reading, fcntl.LOCK_EX)
         with mock.patch.object(files, "SECONDS_FOR_LOCK", 0), opened(self.base):
+            self.expect("its rights", self.rights(LOCK)[0], 0o600)
             self.fails(18, "locked it for 0 seconds", Baseline, self.base)
+        self.expect("what is left", self.texts(), {NAME: b"old"})
+        os.symlink("secret", self.path(LOCK))
+        self.fails(18, "its directory: ", Baseline, self.base)
+        self.expect("what is left", sorted(os.listdir(self.root)), [LOCK, NAME])
+
+    def test_waited(self) -> None:
+        """Another run has replaced the baseline and removed its lock while this one waited."""
+        self.fresh(base=b"old")
+
+        def replaced_first(descriptor: int, deadline: float) -> bool:
+            if locks:
+                return True
+            locks.append(descriptor)
+            self.write(NAME + "2", b"other")
+            os.rename(self.path(NAME + "2"), self.base)
+            os.unlink(self.path(LOCK))
+            return True
+
+        locks: list[int] = []
+        with mock.patch.object(files, "is_locked", replaced_first), opened(self.base) as made:
+            self.expect("its lock", os.fstat(made.lock.fd).st_nlink, 1)
+            reading = made.reading()
+            self.expect("the former one", reading and os.read(reading, 9), b"other")
 
     def test_lease(self) -> None:
         """Another user's lease of the baseline does not keep the command waiting."""

@@ -42,9 +42,17 @@ class TableTest(ModuleTest):
     def test_bounds(self) -> None:
         """Too many rows, too many bytes, and any other failure are a Fault."""
         few = [change(b"/%d" % number) for number in range(3)]
-        with mock.patch.object(tables, "MAX_ROWS", 2):
-            self.fails(18, "there are more than 2 changes", table_of, *few)
-            self.expect("as many as may be", len(table_of(*few[:2])), 2)
+        many = [change(b"/%d" % number, number // 2) for number in range(9)]
+        with mock.patch.object(tables, "MAX_ROWS", 2), mock.patch.object(tables, "BLOCK", 1):
+            five = [change(b"/%d" % number) for number in range(5)]
+            self.fails(18, "there are more than 4 changes that are root's", table_of, *five)
+            self.expect("as many as may be", len(table_of(*five[:4])), 4)
+            table = Table()
+            self.expect("those of others", table.add([*many, change(b"/x"), change(b"/y")]), 7)
+            places = [place for place, in table.ask("select path_key from changes")]
+            self.expect("root's", places, [b"\x010", b"\x011", b"\x01x", b"\x01y"])
+            (found,) = table.ask("select sum(size) from counted")
+            self.expect("all are counted", found, (11,))
         with mock.patch.object(rows.Rows.__init__, "__defaults__", (9 * rows.PAGE,)):
             many = [change(b"/%d" % number + b"n" * 999) for number in range(99)]
             self.fails(18, "cannot keep rows in ", table_of, *many)

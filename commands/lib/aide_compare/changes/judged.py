@@ -16,11 +16,12 @@ from itertools import islice
 from aide_compare.base.ending import DeviceFault
 from aide_compare.base.escapes import shown
 from aide_compare.base.paths import key_of_path
-from aide_compare.base.words import SEVERITIES, status_of_counts
+from aide_compare.base.words import SEVERITIES, counted, status_of_counts
 from aide_compare.changes.recorded import Dpkg, Matcher, Rpm
-from aide_compare.changes.severity import Severity
+from aide_compare.changes.severity import RANKS, Severity
 from aide_compare.changes.table import Marks, Table, Values
-from aide_compare.changes.weighing import directory_of, known_of
+from aide_compare.changes.weighing import OTHERS, directory_of, is_of_directory, known_of
+from aide_compare.compare.line_room import NO_OTHERS, Others
 from aide_compare.lines.change import Change, Counts, Standing, change_of
 from aide_compare.lines.reader import Form, Forms, Reader
 
@@ -28,6 +29,8 @@ LINE_AT = "select line_at, line_size from changes where place = ?"
 COUNTS = "select standing, level, kind, sum(size) from counted group by 1, 2, 3 having sum(size)"
 # The titles above the packages that people hear of first.
 TITLES = ("Unsigned packages", "New packages", "Removed packages")
+MAX_MEMBERS = 1000
+MAX_NAME = 100
 # The files of a package among dpkg's records.
 NAMING = rb".*/([A-Za-z0-9][A-Za-z0-9+.-]*)(?::[a-z0-9-]+)?\.(list|md5sums)"
 
@@ -37,7 +40,7 @@ class Judged:
     packages that are `named`, and in `by` whose records group the changes. `reader` has not given
     any line before; its file is read again for the values of a change."""
 
-    def __init__(self, reader: Reader) -> None:
+    def __init__(self, reader: Reader, others: Others = NO_OTHERS) -> None:
         self.reader = reader
         self.file = reader.file
         self.begin = self.file.tell()  # Of the first change.
@@ -46,9 +49,32 @@ class Judged:
         self.silent: Counter[str] = Counter()
         # How many changes the lines of the list leave out, by their numbers.
         self.left_out: Counter[int] = Counter()
+        # Directories with another number of links, and a directory in each that is left out.
+        self.members: dict[bytes, str] = {}
         self.table = Table()
-        self.table.add(self._values(reader))
-        self.changes = reader.counts.changes  # How many there are.
+        beyond = self.table.add(self._values(reader))
+        self.lines_there = reader.counts.changes
+        self.changes = self.lines_there + sum(others.values())  # How many there are.
+        self.only_counted = beyond + self._count(others)  # They are not in the table.
+
+    def _count(self, others: Others) -> int:
+        """Counts the changes of which no line was kept: as of severity high if they are not silent,
+        since nobody has weighed them. Returns how many of these there are."""
+        open_ones = 0
+        for (kind, account, left_out), count in others.items():
+            if account:
+                self.silent[Standing(account).key] += count
+                self.left_out += Counter({left_out: count} if left_out else {})
+            else:
+                self.table.count(kind, OTHERS, RANKS - 1, count)
+                open_ones += count
+        return open_ones
+
+    def doubts(self) -> Iterator[str]:
+        """What was not judged."""
+        if self.only_counted:
+            words = counted(self.only_counted, "change")
+            yield f"{words} in which no side is root's are only counted: there are too many"
 
     def _values(self, reader: Reader) -> Iterator[Values]:
         """Yields the values of the changes that are not silent, and counts all."""
@@ -63,19 +89,29 @@ class Judged:
                 self.silent[silent.key] += 1
                 if form.left_out:
                     self.left_out[form.left_out] += 1
+                    self._note_member(form, path)
             else:
                 directory, _, name = path.rpartition(b"/")
                 # Most changes are in the directory of the one before. The root is in none.
                 if form is not last or directory != above or not directory:
                     last = form
                     above = directory
-                    held, owners, party, asked = form.value(known_of)
+                    held, owners, party, asked, has_other_links = form.value(known_of)
                     kind = form.kind
                     rank_of = severity.ranks(directory, held)
                     site = bytearray(directory_of(key))
                 rank = rank_of(name)
+                if has_other_links and len(self.members) < MAX_MEMBERS:
+                    self.members[path] = ""
                 yield bytearray(key), site, kind, owners, rank, party, asked, line_at, size
             line_at += size
+
+    def _note_member(self, form: Form, path: bytes) -> None:
+        """Notes why the directory above has other links, if this is a directory that came or went.
+        What is in a directory follows it."""
+        above, _, name = path.rpartition(b"/")
+        if self.members.get(above) == "" and form.kind != "changed" and form.value(is_of_directory):
+            self.members[above] = f"{form.kind} {shown(name, MAX_NAME)} (left out)"
 
     @cached_property
     def counts(self) -> Counts:
@@ -109,7 +145,7 @@ class Judged:
         next_at, _, marks = next(others, nothing)
         self.file.seek(self.begin)
         line_at = self.begin
-        for line in islice(self.file, self.changes):
+        for line in islice(self.file, self.lines_there):
             if line_at == next_at:
                 yield line, marks
                 next_at, _, marks = next(others, nothing)

@@ -11,7 +11,7 @@ from typing import NamedTuple
 from aide_compare.base.database import RUN_BITS, SET_ID
 from aide_compare.base.ending import DeviceFault, Fault, Status
 from aide_compare.base.escapes import shown
-from aide_compare.base.files import lines_of
+from aide_compare.base.files import lines_of, trusted_text
 from aide_compare.base.paths import Pattern, Test, pattern_of
 from aide_compare.base.words import SEVERITIES
 from aide_compare.lines.rights import ROOT, Rights, Side
@@ -24,11 +24,13 @@ SHIPPED = (
     "../../../share/severity.conf",
     "../../../../../share/aide-compare/severity.conf",
 )
+WHAT = "the table of severities"
 # A rank says how much a change matters, and its place among all others: what has a smaller one is
 # read first. Each severity has so many: one for each line that a table may have.
 RANKS = 10000
 OTHER_RANK = SEVERITIES.index("medium") * RANKS
 MAX_PATH = 4096  # PATH_MAX of Linux: no path of a file is longer, so no row means a longer one.
+MAX_PIECES = 64  # No row looks at more: a host can have paths of 2,000, each a new directory.
 # Stands for a program in a directory of which the rights changed.
 PROGRAM = Rights("File", 0o755, ROOT, ROOT, None, None, None, None)
 
@@ -222,15 +224,21 @@ def first_rank(tests: list[tuple[Test | None, int]], name: bytes) -> int:
     return OTHER_RANK
 
 
+@lru_cache(maxsize=1)
+def shipped_table() -> tuple[str, bytes]:
+    """The path and the text of the table that came with the commands. A run reads it once."""
+    places = (os.path.normpath(os.path.join(HERE, part)) for part in SHIPPED)
+    path = next((place for place in places if os.path.isfile(place)), None)
+    if path is None:
+        raise DeviceFault("severity.conf is missing: install this command again")
+    return path, trusted_text(path, WHAT)
+
+
 class Severity:
     """The table: the first line whose tests hold, and one of whose patterns fits, decides."""
 
-    def __init__(self, path: str | None = None) -> None:
-        places = (os.path.normpath(os.path.join(HERE, part)) for part in SHIPPED)
-        path = path or next((place for place in places if os.path.isfile(place)), None)
-        if path is None:
-            raise DeviceFault("severity.conf is missing: install this command again")
-        lines = lines_of(path, "the table of severities")
+    def __init__(self, table: tuple[str, bytes] | None = None) -> None:
+        lines = lines_of(*(table or shipped_table()), WHAT)
         rows = [self._rows(number, *line) for number, line in enumerate(lines)]
         self.top = Inside([(row, tuple(row.pattern.reached(0))) for each in rows for row in each])
 
@@ -275,6 +283,6 @@ class Severity:
     def _in(self, directory: bytes, held: int) -> list[tuple[Test | None, int]]:
         """What the rows say of the entries of a directory."""
         inside = self.top
-        for piece in directory.split(b"/")[1:]:
+        for piece in directory.split(b"/", MAX_PIECES)[1:MAX_PIECES]:
             inside = inside.below(piece)
         return inside.tests(held)

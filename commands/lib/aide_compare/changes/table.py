@@ -16,7 +16,7 @@ from aide_compare.base.words import SEVERITIES
 from aide_compare.changes.severity import RANKS
 from aide_compare.lines.reader import embedded
 
-# More changes of one comparison are refused.
+# Of more changes of one comparison only root's are taken, as many again.
 MAX_ROWS = 1000000
 SCHEMA = f"""
 create table changes (
@@ -40,6 +40,8 @@ Values = tuple[bytearray, bytearray, str, int, int, int, str, int, int]
 INSERT = """
 insert into changes (path_key, site, kind, owners, rank, party, asked, line_at, line_size) values"""
 ROW = "(?, ?, ?, ?, ?, ?, ?, ?, ?)"
+OWNERS = 3
+SIZE_KEY = itemgetter(2, OWNERS, 4)
 BLOCK = 100  # So many rows are inserted at once, which takes two thirds of the time.
 # What people read first. Of one severity that is what is root's, then what is a service's; what the
 # fewest of many hosts have; what the first line of the table of severities means, such as set-ID
@@ -78,17 +80,29 @@ class Table(Rows):
     def __len__(self) -> int:
         return int(next(self.ask("select coalesce(max(place), 0) from changes"))[0])
 
-    def add(self, changes: Iterable[Values]) -> None:
-        """Takes changes in the order of paths; a Fault if they are too many."""
+    def add(self, changes: Iterable[Values]) -> int:
+        """Takes changes in the order of paths. If there are too many, only those take part that may
+        be root's; of all others it returns the number. A Fault if root's are too many."""
         sizes: Counter[Any] = Counter()
-        rows = islice(changes, MAX_ROWS + 1)
+        rows = iter(changes)
+        size = 0
         while block := list(islice(rows, BLOCK)):
-            values = chain.from_iterable(block)
-            self.do(f"{INSERT} {', '.join([ROW] * len(block))}", *values)
-            sizes.update(map(itemgetter(2, 3, 4), block))
-        self.do_all("insert into sizes values (?, ?, ?, ?)", ((*key, sizes[key]) for key in sizes))
-        if len(self) > MAX_ROWS:
-            raise DeviceFault(f"there are more than {MAX_ROWS} changes that are not silent")
+            sizes.update(map(SIZE_KEY, block))
+            if size >= MAX_ROWS:
+                block = [values for values in block if values[OWNERS] == 0]
+            if block:
+                values = chain.from_iterable(block)
+                self.do(f"{INSERT} {', '.join([ROW] * len(block))}", *values)
+            size += len(block)
+            if size > 2 * MAX_ROWS:
+                raise DeviceFault(f"there are more than {2 * MAX_ROWS} changes that are root's")
+        for (kind, owners, rank), number in sizes.items():
+            self.count(kind, owners, rank, number)
+        return sum(sizes.values()) - size
+
+    def count(self, kind: str, owners: int, rank: int, size: int) -> None:
+        """Takes the number of some changes, and nothing else."""
+        self.do("insert into sizes values (?, ?, ?, ?)", kind, owners, rank, size)
 
     def places(self, order: str = ORDER) -> Iterator[int]:
         """Yields the places of all changes in an order, the one in which people read them if no

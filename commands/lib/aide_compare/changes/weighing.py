@@ -14,6 +14,7 @@ from aide_compare.lines.rights import ROOT, Rights, Side, owner_of_change, right
 
 MAX_NUMBER = (1 << 63) - 1
 UNKNOWN = -1
+OTHERS = 2  # The group of owners who are neither root nor a service.
 FIRST_USER = 1000  # The first number of a user who is no service, as in login.defs(5).
 # The summary strings of a change of a content, or of where a link points: of those with a letter
 # of no difference in all slots but these.
@@ -29,6 +30,7 @@ class Known(NamedTuple):
     party: int  # The number of the user who may have many such changes.
     # What records could say of the entry: its "content", or the "target" of a link; or nothing.
     asked: str
+    has_other_links: bool  # A directory that has another number of links than before.
 
 
 def directory_of(key: bytes) -> bytes:
@@ -45,7 +47,7 @@ def group_of_owner(owner: int | None) -> int:
         return 0
     if owner < FIRST_USER:
         return 1
-    return 2
+    return OTHERS
 
 
 def party_of(owner: int | None) -> int:
@@ -71,7 +73,14 @@ def known_of(line: bytes) -> Known:
     asked = ""
     if new is not None and may_be_content(old, new) and is_content(fields, new.is_link):
         asked = "target" if new.is_link else "content"
-    return Known(held_by(old, new), group_of_owner(owner), party_of(owner), asked)
+    other_links = fields["kind"] == "changed" and "Linkcount" in fields["new"]
+    has_other_links = other_links and is_of_directory(line)
+    return Known(held_by(old, new), group_of_owner(owner), party_of(owner), asked, has_other_links)
+
+
+def is_of_directory(line: bytes) -> bool:
+    """Whether a line is that of a directory."""
+    return bool(json.loads(line)["type"] == "Directory")
 
 
 def is_content(fields: Fields, is_link: bool) -> bool:

@@ -17,7 +17,7 @@ from aide_compare.base.options import (
     STATE,
     TRUSTED,
 )
-from aide_compare.base.parser import Defaults, administrators_file, defaults_for
+from aide_compare.base.parser import Defaults, administrators_file, defaults_file, defaults_for
 
 if TYPE_CHECKING:
     from aide_compare.compare.exclusions import Exclusions
@@ -86,18 +86,21 @@ def exclusions_of(
     databases: Sequence[str] = (),
 ) -> Exclusions | None:
     """The list of what is left out: the files of the options, or else that of the administrator,
-    and the patterns. The defaults are looked up with it if they name these databases."""
-    defaults = None
-    if reads_defaults and databases:
-        named = defaults_for((DATABASES,), ()).get(DATABASES.attribute)
-        if named and all(map(is_same, databases, named)):
-            defaults = administrators_file("defaults")
+    and the patterns. If the defaults name these databases, they are looked up with it, and so is
+    the table of severities."""
+    others: dict[str, bytes] = {}
+    if reads_defaults and databases and are_named(databases, defaults_for((DATABASES,), ())):
+        from aide_compare.changes.severity import shipped_table
+
+        others = dict(filter(None, [defaults_file()]))
+        with suppress(Fault):  # Whoever judges the changes says that there is no table.
+            others.update([shipped_table()])
     if not paths and reads_defaults:
         usual = administrators_file("without")
         if usual:
             paths = [usual]
-    if not paths and not patterns and not defaults:
+    if not paths and not patterns and not others:
         return None
     from aide_compare.compare.exclusions import read_exclusions
 
-    return read_exclusions(paths, patterns, defaults)
+    return read_exclusions(paths, patterns, others)

@@ -1,5 +1,5 @@
-"""The baseline in its directory, which is locked against other runs, and how another file takes its
-place: no former one is lost."""
+"""The baseline in its directory, locked against other runs, and how another file takes its place: no
+former one is lost."""
 from __future__ import annotations
 
 import errno
@@ -11,8 +11,7 @@ from aide_compare.base.directories import ANYBODY, LISTING, PIECE, Directory, cl
 from aide_compare.base.directories import open_directory
 from aide_compare.base.ending import DeviceFault, Fault, OSErrorAsFault, Status, why_of
 from aide_compare.base.escapes import shown
-from aide_compare.base.files import copy_file, lock, new_file, refuse_other_kinds, reopened
-from aide_compare.base.files import unlink
+from aide_compare.base.files import Lock, copy_file, new_file, refuse_other_kinds, reopened, unlink
 from aide_compare.base.replacement import exchange, renameat2
 from aide_compare.base.rights import become, entry_of
 
@@ -74,12 +73,23 @@ class Baseline:
             user = _user_for(directory)
             with OSErrorAsFault(f"{self.words}: its directory"):
                 self.directory = os.open(".", LISTING, dir_fd=directory.fd)
-                lock(self.directory)
-            self.former = self._former()
-            self._readable = self._opened_former()
+            self._open_former()
         if user is not None:
             renameat2()
             become(entry_of(user))
+        with OSErrorAsFault(f"{self.words}: its directory"):
+            self.lock = Lock(self.directory, self.name)
+        with OSErrorAsFault(self.words):
+            if self._identity(self.name) != (self.former and self.former.identity):
+                self._open_former()  # Another run has ended meanwhile.
+
+    def close(self) -> None:
+        self.lock.close()
+        os.close(self.directory)
+
+    def _open_former(self) -> None:
+        self.former = self._former()
+        self._readable = self._opened_former()
 
     def _former(self) -> Former | None:
         with suppress(FileNotFoundError):

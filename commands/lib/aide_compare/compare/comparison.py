@@ -12,6 +12,7 @@ from aide_compare.base.options import MAX_DATABASE_BYTES, MAX_REPORT_BYTES
 from aide_compare.base.program import Answer
 from aide_compare.base.words import KINDS, SIDES
 from aide_compare.compare.configuration import NONE, ConfigurationTexts
+from aide_compare.compare.line_room import NO_OTHERS, Others
 from aide_compare.compare.state import State
 from aide_compare.compare.unpack import Copy
 from aide_compare.lines.change import Counts
@@ -57,6 +58,8 @@ class Lines(NamedTuple):
     fd: int
     is_cut: bool  # The file has no more bytes than a request allows.
     end: EndCounts
+    # Those that are not there, of changes in which no side is root's.
+    others: Others = NO_OTHERS
 
 
 class Comparison:
@@ -95,13 +98,22 @@ class Comparison:
             raise DeviceFault("nothing is known of the changes")
         return self.lines
 
-    def reader(self) -> Reader:
-        """A Reader of its lines; a Fault if they are too many to be all there."""
+    def whole_lines(self) -> Lines:
+        """Its lines; a Fault if they are too many for those of root's to be all there."""
         lines = self.known_lines()
         if lines.is_cut:
-            limit = self.request.max_report
-            raise DeviceFault(f"the changes have more than {limit} bytes")
+            raise self._fault_of_size()
+        return lines
+
+    def reader(self) -> Reader:
+        """A Reader of its lines; a Fault if they are too many to be all there."""
+        lines = self.whole_lines()
+        if lines.others:
+            raise self._fault_of_size()
         return reader_over(lines.fd)
+
+    def _fault_of_size(self) -> Fault:
+        return DeviceFault(f"the changes have more than {self.request.max_report} bytes")
 
     def fail(self, error: BaseException) -> None:
         """Something has ended it."""

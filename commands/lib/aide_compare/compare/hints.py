@@ -21,7 +21,7 @@ MAX_HEAD = 1 << 16
 MAX_NAME = 40
 UNKNOWN_BEGINNING = (
     "it is not an AIDE database, its beginning is missing, or it is packed by another program than "
-    "gzip"
+    "gzip: then as in xz -dc FILE | aide-compare OLD -"
 )
 OTHER_ENDS = "its lines end in CR and LF: copy it byte by byte"
 # What the words of a refusal mean, where they say too little.

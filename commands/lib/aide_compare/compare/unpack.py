@@ -107,7 +107,9 @@ def _unzipped(packed: Iterable[bytes]) -> Iterator[bytes]:
             yield member.decompress(block, BLOCK)
             block = member.unconsumed_tail
         if member.eof and (member.unused_data.strip(b"\0") or block.strip(b"\0")):
-            raise zlib.error("more follows its first member")
+            raise zlib.error(
+                "more follows its first member; for all: zcat FILE | aide-compare OLD -"
+            )
     if not member.eof:
         raise zlib.error("it ends too early")
 

@@ -11,13 +11,14 @@ from functools import partial
 from aide_compare.base.ending import DeviceFault, Fault, OSErrorAsFault, Status, write_all
 from aide_compare.base.escapes import shown
 from aide_compare.base.files import nameless, private_place
-from aide_compare.base.program import LINES_PROGRAM, Answer, Drain, Tail, find_installed
+from aide_compare.base.program import LINES_PROGRAM, Answer, Tail, find_installed
 from aide_compare.base.words import SIDES, TRUSTED_SIDES, age_in_words, counted, words_of_side
 from aide_compare.compare.asking import Settings, ask_for_lines, odd_answer, settings_of
 from aide_compare.compare.comparison import Comparison, Lines, Refusal, ComparisonInput
 from aide_compare.compare.configuration import ConfigurationTexts, configuration_in
 from aide_compare.compare.hints import column_names, column_notes, equal_notes, hints_of
 from aide_compare.compare.hints import order_notes
+from aide_compare.compare.line_room import LineRoom
 from aide_compare.compare.unpack import Opened, copy_opened, open_database
 from aide_compare.lines.reader import ODD, end_of
 
@@ -73,19 +74,19 @@ def refusal_of(comparison: Comparison, answer: Answer) -> Fault:
 
 
 def read_lines(comparison: Comparison) -> Lines:
-    """The lines of aide_lines, of which those beyond a limit are only counted."""
+    """The lines of aide_lines. Beyond a limit only what may be root's is kept."""
     request = comparison.request
     target = request.target
     words = "cannot keep the changes"
     if target is None:
         target = nameless()
         words += f" in {private_place()}"
-    drain = Drain(max(request.max_report, MIN_LINES), partial(write_all, target))
+    room = LineRoom(max(request.max_report, MIN_LINES), partial(write_all, target))
     tail = Tail()
 
     def take(block: bytes) -> None:
         with OSErrorAsFault(words):
-            drain.take(block)
+            room.take(block)
         tail.take(block)
 
     exclusions = request.exclusions
@@ -112,7 +113,10 @@ def read_lines(comparison: Comparison) -> Lines:
         copy.digest = copy.digest or digests[side]
     if exclusions:
         comparison.warnings += exclusions.warnings(comparison.copies["old"])
-    return Lines(target, drain.is_cut, end)
+    if room.lacks_end:
+        with OSErrorAsFault(words):
+            room.put(room.end_of_kept(fields, end))
+    return Lines(target, room.is_cut, end, room.others)
 
 
 def compare(request: ComparisonInput) -> Comparison:
