@@ -2,6 +2,7 @@
 from __future__ import annotations
 
 import base64
+import fcntl
 import hashlib
 import os
 import subprocess
@@ -15,7 +16,7 @@ from .mail import COUNTS, MailTest, SUBJECT, TOOL, body, call, check_size, loggi
 from .mail import many, sent, subject, take_mail, words_of
 from .units.calls import misused
 from .sandbox import NEW, OLD, sha256
-from .test_without import list_database
+from .test_deciding import list_database
 
 CHANGES = b"""
 Open, severity medium:
@@ -67,7 +68,7 @@ class TextsTest(MailTest):
         self.assertIn("this option cannot be a default: --odd", words_of(body(sent(self))))
         os.remove(self.path("etc/defaults"))
         addresses = ["--to", ""], ["--to", "a\nBcc: b"], ["--to", "-x"], ["--to", "é\x01"]
-        for words in (*addresses, ["--weekly=Foo"], ["--mail-time", "x"]):
+        for words in (*addresses, ["--weekly=Foo"], ["--mail-time", "x"], ["--mail-time", "0"]):
             self.assertEqual(misused(self, TOOL, "old.db", "new.db", *words)[0], 15, words)
         self.assertEqual((call(self, "old.db", "new.db", "more").status, sent(self)), (15, None))
         said = b"two outputs have one place, such as standard output"
@@ -88,7 +89,7 @@ class TextsTest(MailTest):
             answer = call(self, "--exclude-from", "list", "list.db", "same.db")
             self.expect("no difference beside a list", answer, 0)
             message = sent(self)
-            title = SUBJECT + "the list or the defaults were changed" if is_said else None
+            title = SUBJECT + "what decides on reports was changed" if is_said else None
             self.assertEqual((subject(message), path in body(message)), (title, is_said))
 
     def test_test(self) -> None:
@@ -211,9 +212,12 @@ class QueueTest(MailTest):
             self.assertEqual((subject(message), self.waiting()), (SUBJECT + COUNTS, []))
             self.mail("old.db", "new.db", *queue, status=0)
         self.stub("sendmail", "sleep 1; echo >> taken")
+        reading = os.open(self.path("queue"), os.O_RDONLY)
+        self.addCleanup(os.close, reading)
+        fcntl.flock(reading, fcntl.LOCK_EX)  # As anybody can who may read the directory.
         both = [self.start(TOOL, "--send-queue", "queue") for _ in range(2)]
         for process in both:
-            process.communicate()
+            process.communicate(timeout=60)
             self.assertEqual(process.returncode, 0)
         self.assertEqual(self.read("taken"), b"\n", "one of two runs sends it")
 
@@ -258,6 +262,8 @@ class QueueTest(MailTest):
         self.assertLessEqual(rights, set(daily))
         ends = [f"On{end}=aide-compare-{unit}.service" for end, unit in ENDS.items()]
         self.assertLessEqual(set(ends), set(daily))
+        waits = {"After=dailyaidecheck.service", "JobTimeoutSec=10h"}
+        self.assertLessEqual(waits, set(daily[: daily.index("[Service]")]), "not for ever")
         self.assertFalse([line for line in daily if line.startswith("SuccessExitStatus")])
         failed = read("contrib/systemd/aide-compare-failed.service")
         self.assertNotRegex(failed, "(?m)^StateDirectory", "which may be the failure")

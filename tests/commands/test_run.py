@@ -4,6 +4,7 @@ from __future__ import annotations
 
 import gzip
 import os
+import re
 import shutil
 import subprocess
 import time
@@ -117,6 +118,29 @@ class RunTest(CommandTest):
         self.call(TOOL, "old.db", "old.db.gz", "--state", "state")
         state = self.state()
         self.assertEqual([state[key] for key in ("status", *KINDS)], ["0"] * 4)
+
+    def test_links_without_targets(self) -> None:
+        """A link whose rule does not ask for its target says so: nobody knows where it leads."""
+        for attr, lname, more in ((540, b"0", ", the rule records no target"), (542, b"t", "")):
+            for name, inode in (("1.db", 7), ("2.db", 8)):
+                head = b"@@begin_db\n@@db_spec name lname attr perm uid gid inode\n"
+                lines = b"/d 0 540 40755 0 0 %d\n/x %s %d 120777 0 0 %d\n"
+                self.write(name, head + lines % (inode, lname, attr, inode) + END)
+            answer = self.call("aide-compare", "1.db", "2.db")
+            found = re.findall("changed  /x: another inode(.*)", answer.output_text)
+            self.assertEqual(found, [more] if more else [], answer)
+
+    def test_locale(self) -> None:
+        """The name of a database is shown and kept by its bytes, whatever the locale says of them."""
+        words = ["localedef", "-i", "en_US", "-f", "ISO-8859-1", self.path("en_US.ISO-8859-1")]
+        if not shutil.which("localedef") or subprocess.call(words, stderr=subprocess.DEVNULL):
+            self.skipTest("no locale can be made here")
+        self.write("d\u00e9.db", NEW)
+        locale = {"LC_ALL": "en_US.ISO-8859-1", "LOCPATH": self.root}
+        words = ["--state", "state", "old.db", "d\u00e9.db"]
+        answer = self.call("aide-compare", *words, environment=locale)
+        self.assertIn("new database: d\u00e9.db,", answer.error_text)
+        self.assertEqual(self.state()["new"], "d\u00e9.db")
 
     def test_failed_states(self) -> None:
         """A failure leaves a state with its cause and without counts; bad arguments leave it."""

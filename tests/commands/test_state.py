@@ -105,6 +105,11 @@ class StatusTest(StateTest):
         old = self.people(age=93700)[0]
         self.assertIn("there should have been one in the last 26 hours", old)
         self.assertIn("which is in the future", self.people(age=-4000)[0])
+        late = {"new_written": int(time.time()) - 105000}
+        self.assertEqual(
+            self.people(**late)[1], "No difference; the new database was 29 hours old."
+        )
+        self.assertEqual(len(self.people("-q", **late)), 4, "a missed night with -q")
         silent = {"status": 4, "changed": 3, **Counts(same=1, left_out=2)._asdict()}
         self.assertEqual(self.people("-q") + self.people("-q", **silent), [], "nothing with -q")
         self.assertEqual(len(self.people("-q", age=93700)), 4, "an old one with -q")
@@ -226,6 +231,9 @@ class CheckTest(StateTest):
             numbers = f"|added={added} removed={removed} changed={changed} age=6"
             text = f": {added} added, {removed} removed, {changed} changed|" if status else ": no "
             self.check(f"the status {status}", want, numbers, text)
+        for hours, text in ((26, "no difference|"), (31, "; the new database was 30 hours old|")):
+            self.put(new_written=int(time.time()) - hours * 3600)
+            self.check("a night that AIDE has missed", 0, text)
         self.put(age=-20)
         self.check("a clock that is a little behind", 0, "age=0s")
         self.call("aide-compare", "old.db", "new.db", "--state", "state")

@@ -64,4 +64,6 @@ class CheckTest(ModuleTest):
             line = f"AIDE UNKNOWN: cannot open the state file {'x' * 500}"
             cut = line[: len("AIDE UNKNOWN: ") + 300] + "..."
             self.assertEqual(told.call_args[0][0], cut)
+        answer = check.Answer(check.Level.OK, "a <img src=x|y>", "n=1")
+        self.assertEqual(answer.line(), "AIDE OK: a (img src=x!y>|n=1")
         self.assertEqual(status_command.request_of(["--no-defaults"]).state, DAILY)

@@ -19,6 +19,13 @@ class MailRequestTest(ModuleTest):
         place = mock.patch.object(parser, "DIRECTORY", self.root)
         place.start()
         self.addCleanup(place.stop)
+        self.addCleanup(parser.defaults_file.cache_clear)
+        parser.defaults_file.cache_clear()
+
+    def write_defaults(self, text: bytes) -> None:
+        """Writes them as they are for the next run: each reads them once."""
+        self.write("defaults", text)
+        parser.defaults_file.cache_clear()
 
     def asks(self, words: str, **wanted: Any) -> MailRequest:
         """What some words ask for. Of a mail they ask for nothing else that no words ask for."""
@@ -50,14 +57,14 @@ class MailRequestTest(ModuleTest):
 
     def test_defaults(self) -> None:
         """The defaults come first. A fault in them costs no mail, and the mail says it."""
-        self.write("defaults", b"--to a@b\n--weekly Tue\n--max-age 5d\n")
+        self.write_defaults(b"--to a@b\n--weekly Tue\n--max-age 5d\n")
         usual = {"address": "a@b", "weekly": "Tue"}
         self.asks("--to c@d", **{**usual, "address": "c@d"})
         self.asks("o n --max-size 1G", max_age=5 * 86400, **usual)
         self.asks("-- o n", **usual)
         self.asks("--state=s", state="s", **usual)
         for line, why in (("--to -x", "address"), ("--odd", "defaults, line 1: ")):
-            self.write("defaults", line.encode())
+            self.write_defaults(line.encode())
             request = request_of(["o", "n"])
             self.assertEqual(request.address, "root")
             self.assertIn(why, request.fault.text if request.fault else "")
@@ -65,7 +72,7 @@ class MailRequestTest(ModuleTest):
     def test_machine(self) -> None:
         """Databases and state of this machine are the defaults' ones; a list has what both say."""
         lines = b"--databases o  n\n--state s\n--weekly Tue\n--exclude /a\n"
-        self.write("defaults", lines)
+        self.write_defaults(lines)
         missing = ["there is no baseline o: as root, aide-compare setup makes it"]
         comparison = self.asks("--exclude /b", state="s", weekly="Tue", notes=missing)
         got = (comparison.databases, comparison.state, comparison.exclude)
@@ -83,7 +90,7 @@ class MailRequestTest(ModuleTest):
             *("--user root", "--queue q", "--json x", "--only /x", "-c x", "o.db", "--"),
             *("--attach-page yes", "--max-age", "--odd", "--to", "--state a\0b"),
         ):
-            self.write("defaults", b"# x\n\n--max-size 1G\n%s\n" % line.encode())
+            self.write_defaults(b"# x\n\n--max-size 1G\n%s\n" % line.encode())
             options = (*COMPARISON_DEFAULTS, *MAIL_DEFAULTS)
             with self.subTest(line):
                 self.fails(15, "defaults, line 4: ", defaults_for, options, ())

@@ -267,6 +267,9 @@ def failure_text(unit: str) -> str:
     """What a mail says of the unit that should have queued one and has failed. systemd 251 and
     later say how, by variables, but give no status if what runs before the comparison failed."""
     result = os.environ.get("MONITOR_SERVICE_RESULT")
+    if result == "success":  # That of the last time: this time it did not begin.
+        how = "did not begin: AIDE, for which it waits, has not ended or has failed"
+        return f"{unit} {how}. Its lines: journalctl -u {shlex.quote(unit)}"
     how = f": {result}, status {os.environ.get('MONITOR_EXIT_STATUS', 'unknown')}" if result else ""
     return f"{unit} failed{how}. Its lines: journalctl -u {shlex.quote(unit)}"
 

@@ -36,7 +36,7 @@ from aide_compare.base.parser import Help, defaults_for, read
 from aide_compare.base.words import SEVERITIES, capitalized, minute_of
 from aide_compare.compare.state import DAILY, State, read_state
 from aide_compare.show.check import Answer, Level, answer_of
-from aide_compare.show.result import result_text, time_text
+from aide_compare.show.result import late_text, result_text, time_text
 
 HELP = Help(
     name="aide-compare status",
@@ -159,7 +159,7 @@ def write_text(request: StatusRequest) -> int:
         raise DeviceFault(text, hint)
     state = read_state(request.state)
     is_young = state.age is not None and not state.is_older(request.max_age)
-    if request.is_quiet and state.told_status == 0 and is_young:
+    if request.is_quiet and state.told_status == 0 and is_young and not late_text(state):
         return Status.OK
     lines = [*paragraph(state, request.max_age), *mail_lines(request)]
     tell(*(guarded(line)[:MAX_LINE] for line in lines))

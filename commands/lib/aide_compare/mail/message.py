@@ -34,7 +34,7 @@ def subject_of(state: State, columns: Sequence[str] = (), warnings: Sequence[str
     elif state.status:
         parts.append(f"failure (status {state.status})")
     if warnings:
-        parts.append("the list or the defaults were changed")
+        parts.append("what decides on reports was changed")
     if columns:
         parts.append(not_compared([re.sub(r"[^A-Za-z0-9._#-]", "?", name) for name in columns]))
     return f"aide on {host_name()}: {'; '.join(parts)}"

@@ -12,14 +12,14 @@ import socket
 import stat
 import time
 from collections.abc import Callable
-from contextlib import suppress
+from contextlib import ExitStack, closing, suppress
 from functools import partial
 
-from aide_compare.base.directories import LISTING, Directory, closed_after, names_in
+from aide_compare.base.directories import Directory, closed_after, names_in
 from aide_compare.base.directories import open_directory
 from aide_compare.base.ending import DeviceFault, Fault, OSErrorAsFault, fault_of, say
 from aide_compare.base.escapes import encoded, shown
-from aide_compare.base.files import in_memory, is_locked
+from aide_compare.base.files import Lock, in_memory
 from aide_compare.base.processes import run_on
 from aide_compare.base.replacement import replace
 from aide_compare.mail.message import shortened
@@ -34,7 +34,6 @@ JOURNAL = "/run/systemd/journal/socket"
 AUTH_ALERT = 4 * 8 + 1
 MAX_ANSWER = 1 << 16
 LOG_SECONDS = 5
-LOCK_SECONDS = 120
 MAX_WAITING = 64
 MAX_MAIL_BYTES = 64 << 20  # Of a mail that waits.
 
@@ -160,10 +159,9 @@ def send_all(path: str, way: Transport) -> None:
     """Sends what waits, the oldest first. What cannot be sent stays, and is tried again the next
     time."""
     failed = None
-    with open_directory(path, make=True) as directory:
-        # Kept until this command ends. Without it all is sent too: one may go twice, none is lost.
-        lock = os.open(".", LISTING, dir_fd=directory.fd)
-        is_locked(lock, time.monotonic() + LOCK_SECONDS)
+    with open_directory(path, make=True) as directory, ExitStack() as locked:
+        with suppress(OSError):  # Without it all is sent too: one may go twice, none is lost.
+            locked.enter_context(closing(Lock(directory.fd, "sending")))
         for name in names_in(directory, MAIL):
             try:
                 what = f"cannot send or remove the mail {shown(name)}"

@@ -33,7 +33,8 @@ class Answer(NamedTuple):
     numbers: str = ""
 
     def line(self) -> str:
-        line = guarded(self.text).replace("|", "!")  # A bar begins the numbers.
+        # A bar begins the numbers, and a page that shows this may obey what begins with the other.
+        line = guarded(self.text).replace("|", "!").replace("<", "(")
         if len(line) > MAX_LINE:
             line = f"{line[:MAX_LINE]}..."
         if self.numbers:
