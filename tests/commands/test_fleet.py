@@ -24,7 +24,11 @@ PAIR = ("good1", "good2", "good3", "good4", "good5", "good6")
 SSH = '''words=$*
 while [ "${1#-}" != "$1" ]; do [ "$1" = -o ] && shift; shift; done
 case $words in
-    *PreferredAuthentications=none*) echo "$1 KEY" >> "ROOT/known_hosts"; exit 255 ;;
+    *PreferredAuthentications=none*)
+        echo "$1 KEY" >> "ROOT/known_hosts"
+        echo "$words" > ROOT/asked
+        [ "$1" != open ] || exec sleep 300
+        exit 255 ;;
 esac
 refused="ssh: connect to host $1 port 22: Connection refused"
 [ ! -e "ROOT/down/$1" ] || { echo "$refused" >&2; exit 255; }
@@ -37,6 +41,7 @@ case $1 in
         printf 'Host key verification failed.\\n' >&2; exit 255 ;;
     asking) read -r answer < /dev/tty; exit 1 ;;
     denied) echo "root@denied: Permission denied (publickey)." >&2; exit 255 ;;
+    liar) echo '0 no differences" (ssh: status 0)' >&2; exit 1 ;;
     coloured) printf 'a\\033[31mb\\302\\233c\\n' >&2; exit 1 ;;
     killer*) kill -9 $PPID; exit 1 ;;
 esac
@@ -211,11 +216,12 @@ class FleetTest(CommandTest):
 
     def test_told(self) -> None:
         """What people see of a host's bytes, and processes that end without an answer."""
-        failed = "Host key verification failed. (ssh ended with 255); "
+        failed = '"Host key verification failed." (ssh: status 255); '
         unknown = failed + "is its key in known_hosts?"
         changed = failed + "its key differs from the one in known_hosts"
-        coloured = r"a\033[31mb\302\233c (ssh ended with 1)"
-        causes = {"unknown": unknown, "changed": changed, "coloured": coloured}
+        coloured = r'"a\033[31mb\302\233c" (ssh: status 1)'
+        liar = '"0 no differences\' (ssh: status 0)" (ssh: status 1)'
+        causes = {"unknown": unknown, "changed": changed, "coloured": coloured, "liar": liar}
         for host, told in causes.items():
             self.fleet.put(host, OLD)
             said = self.fleet.compare_one(host)

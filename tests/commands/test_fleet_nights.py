@@ -205,12 +205,12 @@ class ListedOnceTest(CommandTest):
         self.assertEqual(found, {"www": "/sbin/x", "db1": "/sbin/x"}, "another file was removed")
 
     def test_whole_entry(self) -> None:
-        """An entry counts as a whole: where the canary changed in its owner alone, that is listed,
-        and a host that had another content comes to the same entry in silence."""
+        """Where the canary changed in its owner alone, that is listed, and a host that had another
+        content and comes to the same entry is listed too."""
         before, after = program("/bin/su", b"weak"), program("/bin/su", b"weak", owner=7)
         db1 = (measured(program("/bin/su", b"hard", owner=7)), measured(after))
         found = self.opened({"www": (measured(before), measured(after)), "db1": db1})
-        self.assertEqual(found, {"www": "/bin/su"})
+        self.assertEqual(found, {"www": "/bin/su", "db1": "/bin/su"})
         found = self.opened({"www": (measured(after), measured(after)), "db1": db1})
         self.assertEqual(found, {"db1": "/bin/su"})
 
@@ -226,7 +226,7 @@ class ListedOnceTest(CommandTest):
         self.write("store/hosts/www/aide.db.previous", good, 0o600)
         self.assertEqual(self.opened({"www": (both, only), "db1": db1}), {"db1": "/bin/su"})
         found = self.opened({"www": (good, only), "db1": db1})
-        self.assertEqual(found, {"www": "/bin/su"}, "listed on the canary")
+        self.assertEqual(found, {"www": "/bin/su", "db1": "/bin/su"}, "no common digest there")
 
     def mailed(self, fleet: Fleet, path: str = "hosts") -> str:
         """What the mail about some hosts says first; nothing if there is none."""

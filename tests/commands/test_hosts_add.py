@@ -219,12 +219,29 @@ class HostsAddTest(CommandTest):
             self.assertIn(b" watched", run.communicate(timeout=60)[0], run.args)
         self.assertEqual(sorted(self.read(file).split()), [b"db1", b"www"])
         self.set_names("base.files", SECONDS_FOR_LOCK=0)
-        descriptor = os.open(self.root, os.O_RDONLY)
-        self.addCleanup(os.close, descriptor)
-        fcntl.flock(descriptor, fcntl.LOCK_EX)
+        # Its lock is a file that goes again; who can only read the directory locks nothing.
+        self.assertNotIn(".etc-hosts.lock", os.listdir(self.root))
+        self.hold(self.root)
+        words = ("--store", self.path("store"), "--hosts-file", file, "www")
+        self.answered(0, None, None, "aide-compare hosts remove", *words)
+        self.hold(self.write(".etc-hosts.lock", b"", 0o600))
         told = "its directory: another process has locked it for 0 seconds"
         self.fleet.put("db2", OLD, None)
         self.refuses(18, told, "db2", *digest)
+
+    def hold(self, path: str) -> None:
+        """Locks a file or a directory until the end of the test."""
+        descriptor = os.open(path, os.O_RDONLY)
+        self.addCleanup(os.close, descriptor)
+        fcntl.flock(descriptor, fcntl.LOCK_EX)
+
+    def test_open(self) -> None:
+        """A host that lets everybody in gets no session and no agent when ssh asks about its key,
+        and the end of that time is not the end of all."""
+        self.refuses(18, "open: had not sent all of it after 2 seconds", "open", "--time=2s")
+        asked = self.read("asked").decode().split(" -o ")
+        self.assertEqual(asked[0], "-n -N -a -x")
+        self.assertLessEqual({"ClearAllForwardings=yes", "ControlPath=none"}, set(asked))
 
     def test_faults(self) -> None:
         """What cannot be fetched or is no database is not asked about."""
@@ -271,9 +288,9 @@ class HostsAddTest(CommandTest):
         sshds.running["db1"].kill()
         sshds.running["db1"].wait()
         output = self.compared(18, f"www {DIFFERS}")
-        self.assertRegex(output, "(?m)^db1 18 ssh: .*Connection refused")
+        self.assertRegex(output, '(?m)^db1 18 "ssh: .*Connection refused')
         sshds.start("db1", "cat /dev/null")
-        self.compared(18, "db1 18 Host key verification failed")
+        self.compared(18, 'db1 18 "Host key verification failed')
         shutil.rmtree(self.path("store/hosts/db1"))
         self.refuses(18, "Host key verification failed", "db1")
 

@@ -13,7 +13,7 @@ from .units.calls import misused
 from .sandbox import CommandTest, END, NEW, OLD, sha256
 from .test_fleet import COUNTS, DIFFERS, Fleet
 from .test_hosts_report import Hosts, database, four_hosts, line
-from .test_without import list_database
+from .test_deciding import list_database
 from .viewers.pages import data_in
 
 ROOM = 100000
@@ -226,7 +226,7 @@ class HostsQuietTest(CommandTest):
         """A host that is down: a later comparison without a fetch does not lose the cause, and is
         no comparison of today."""
         fleet = self.prepare(OLD, NEW)
-        cause = "ssh: connect to host h01 port 22: Connection refused (ssh ended with 255)"
+        cause = '"ssh: connect to host h01 port 22: Connection refused" (ssh: status 255)'
         for had_one in (False, True):
             if had_one:
                 fleet.compare(self.hosts)

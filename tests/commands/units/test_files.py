@@ -95,6 +95,7 @@ class FilesTest(PlacesTest):
         for size in (3, 18, 1000, len(whole) - 8, len(whole) - 1):
             self.fails(18, "cut short", copied, self.write("db", whole[:size]))
         self.fails(18, "more follows", copied, self.write("db", whole + b"x"))
+        self.fails(18, "zcat FILE | aide-compare OLD -", copied, self.path("db"))
         wrong_bit = whole[:-5] + bytes([whole[-5] ^ 1]) + whole[-4:]
         self.fails(18, "damaged", copied, self.write("db", wrong_bit))
 

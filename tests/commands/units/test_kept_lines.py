@@ -16,6 +16,7 @@ from aide_compare.base.ending import Fault
 from aide_compare.base.files import in_memory
 from aide_compare.base.paths import key_of_path, path_of
 from aide_compare.changes.judged import Judged
+from aide_compare.compare.line_room import LineRoom
 from aide_compare.compare.state import State
 from aide_compare.hosts import kept_lines
 from aide_compare.hosts.fleet import Fleet
@@ -24,7 +25,7 @@ from aide_compare.hosts.kept_lines import write_kept
 from aide_compare.hosts.report_values import CUT, UNREADABLE, WHOLE
 from aide_compare.lines import reader
 from aide_compare.lines.change import Counts, Fields
-from aide_compare.lines.reader import Reader, Refused, reader_over
+from aide_compare.lines.reader import Reader, Refused, end_of, reader_over
 
 ROOM = 1 << 20
 SOUND = [fields_of("/srv/a"), fields_of("/srv/b", "removed")]
@@ -42,8 +43,8 @@ def read_bytes(data: bytes) -> list[str]:
 class KeptLinesTest(ModuleTest):
     def test_written(self) -> None:
         """Lines that were cut are not kept, and those of another form are a Fault."""
-        lines = mock.Mock(fd=stream_of(*SOUND), is_cut=False)
-        comparison: Any = mock.Mock(known_lines=lambda: lines)
+        lines = mock.Mock(fd=stream_of(*SOUND), is_cut=False, others={})
+        comparison: Any = mock.Mock(known_lines=lambda: lines, doubts=[])
         target = in_memory(b"")
         counts = write_kept(target, comparison, ROOM)
         self.assertEqual(counts and counts.open, 2)
@@ -52,6 +53,35 @@ class KeptLinesTest(ModuleTest):
         self.fails(18, "are not understood", write_kept, target, comparison, ROOM)
         lines.is_cut = True
         self.assertIsNone(write_kept(target, comparison, ROOM))
+
+    def test_room(self) -> None:
+        """Whatever pieces the lines come in, and wherever the limit is, what is kept is a stream
+        with all of root's changes, and the others are counted."""
+        more: list[Fields] = [{}, {"same_as": "old"}, {"left_out": 2}, {"same_as": "trusted"}]
+        changes = [
+            fields_of(f"/srv/{number}", "changed", number % 3 * 500, **more[number % 4])
+            for number in range(10, 50)
+        ]
+        data = os.pread(stream_of(*changes), ROOM, 0)
+        end = json.loads(data.splitlines()[-1])
+        roots = {each["path"] for each in changes if not each["new"]["UID"]}
+        for limit in (*range(150, len(data), 577), len(data)):
+            for size in (1, 100, 4000, len(data)):
+                kept = bytearray()
+                room = LineRoom(limit, kept.extend)
+                for at in range(0, len(data), size):
+                    room.take(data[at : at + size])
+                if room.lacks_end:
+                    room.put(room.end_of_kept(end, end_of(end)))
+                self.assertEqual(room.is_cut, len(kept) > 2 * limit or room.size > len(kept))
+                if room.is_cut:
+                    continue
+                paths = set(read_bytes(bytes(kept)))
+                self.assertEqual(len(paths) + sum(room.others.values()), len(changes))
+                self.assertLessEqual(roots, paths)
+                judged = Judged(reader_over(in_memory(bytes(kept))), room.others)
+                counts = judged.counts
+                self.assertEqual((counts.same, counts.trusted, counts.left_out), (10, 10, 10))
 
     def test_read(self) -> None:
         """What is kept is a stream as of aide_lines, whose end has the standings of all changes."""

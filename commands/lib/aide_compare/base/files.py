@@ -132,12 +132,12 @@ def trusted_text(path: str, what: str) -> bytes:
         return read_whole(descriptor, MAX_TRUSTED_BYTES, f"{what} {shown(path)}")
 
 
-def lines_of(path: str, what: str) -> list[tuple[bytes, str]]:
-    """The lines of such a file that say something, each with the place where it stands. Blanks at
+def lines_of(path: str, text: bytes, what: str) -> list[tuple[bytes, str]]:
+    """The lines of such a text that say something, each with the place where it stands. Blanks at
     the ends do not count."""
     name = shown(path, 200)
     lines = []
-    for number, raw in enumerate(trusted_text(path, what).split(b"\n"), 1):
+    for number, raw in enumerate(text.split(b"\n"), 1):
         line = raw.strip(b" \t\r")
         if line and not line.startswith(b"#"):
             lines.append((line, f"{name}, line {number}"))
@@ -242,7 +242,25 @@ def is_locked(descriptor: int, deadline: float, how: int = fcntl.LOCK_EX) -> boo
             time.sleep(0.02)
 
 
-def lock(descriptor: int) -> None:
-    """Locks a directory. It waits for another run, but not for ever."""
-    if not is_locked(descriptor, time.monotonic() + SECONDS_FOR_LOCK):
-        raise failure(errno.EBUSY, f"another process has locked it for {SECONDS_FOR_LOCK} seconds")
+class Lock:
+    """A lock in an open directory: a file that only its owner can open, since who can open a file
+    can lock it. It goes with the lock. Another run is waited for, but not for ever."""
+
+    def __init__(self, directory: int, file: str) -> None:
+        self.directory = directory
+        self.name = f".{file}.lock"
+        flags = os.O_RDWR | os.O_CREAT | os.O_NOFOLLOW | os.O_CLOEXEC
+        deadline = time.monotonic() + SECONDS_FOR_LOCK
+        while True:
+            self.fd = os.open(self.name, flags, PRIVATE, dir_fd=directory)
+            if not is_locked(self.fd, deadline):
+                os.close(self.fd)
+                text = f"another process has locked it for {SECONDS_FOR_LOCK} seconds"
+                raise failure(errno.EBUSY, text)
+            if os.fstat(self.fd).st_nlink:  # Another run may have removed it meanwhile.
+                return
+            os.close(self.fd)
+
+    def close(self) -> None:
+        unlink(self.name, self.directory)
+        os.close(self.fd)

@@ -4,6 +4,7 @@ from __future__ import annotations
 from collections.abc import Sequence
 
 from aide_compare.base.ending import DeviceFault, usage_fault
+from aide_compare.base.escapes import shown
 from aide_compare.base.files import is_missing
 from aide_compare.base.options import (
     KEEP_OPEN,
@@ -50,7 +51,8 @@ class HostAcceptRequest(HostsAsked):
 def main(arguments: Sequence[str]) -> int:
     request = read(HostAcceptRequest, arguments, HELP)
     if not request.digest:
-        raise usage_fault("give --sha256")
+        words = f"echo {shown(request.host, 200)} | aide-compare hosts report -"
+        raise usage_fault(f"give --sha256, which this prints: {words}")
     host = check_name(request.host)
     if is_missing(f"{request.store}/hosts/{host}/{NEW_FILE}"):
         raise DeviceFault(f"{host}: nothing was fetched yet; see aide-compare hosts add --help")

@@ -103,7 +103,7 @@ def request_of(arguments: Sequence[str]) -> HostsRequest:
     if exclusions:
         refuse_faulty(exclusions)
         # What a host has at the path of such a file is not the list of this machine.
-        exclusions = exclusions._replace(files={})
+        exclusions = exclusions._replace(files={}, links={})
     return request.but(exclusions=exclusions, trusted={}, max_kept=MAX_KEPT)
 
 

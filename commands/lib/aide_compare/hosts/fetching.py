@@ -33,9 +33,10 @@ HINTS = (
 
 def ask_for_key(directory: HostDirectory) -> None:
     """Lets ssh ask on the terminal, as it does for people, if it does not know the key of a host.
-    No key and no password is sent."""
-    words = ["ssh", "-n", "-o", "StrictHostKeyChecking=ask", "-o", "PreferredAuthentications=none"]
-    with suppress(FileNotFoundError):  # The transfer says so.
+    No key and no password is sent, and a host that lets everybody in gets no session."""
+    words = "ssh -n -N -a -x -o ClearAllForwardings=yes -o ControlPath=none".split()
+    words += ["-o", "StrictHostKeyChecking=ask", "-o", "PreferredAuthentications=none"]
+    with suppress(FileNotFoundError, OverTime):  # The transfer says so.
         run_here([*words, directory.host], int(directory.seconds), os.environ, is_silent=True)
 
 
@@ -71,11 +72,11 @@ def cause_of(errors: bytes, status: int) -> str:
     lines = [line for line in re.split(rb"[\r\n]+", errors) if line.strip()]
     text = "ssh gave no reason"
     if lines:
-        text = shown(lines[-1], 200)
+        text = '"{}"'.format(shown(lines[-1], 200).replace('"', "'"))
     hints = "".join(f"; {hint}" for words, hint in HINTS if words in text)
     if UNKNOWN_KEY in text and CHANGED_KEY in errors:
         hints = "; its key differs from the one in known_hosts"
-    return f"{text} (ssh ended with {status}){hints}"
+    return f"{text} (ssh: status {status}){hints}"
 
 
 def fetch(directory: HostDirectory, jobs: int, check: Callable[[int], None] | None = None) -> None:

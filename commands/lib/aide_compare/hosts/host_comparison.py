@@ -103,7 +103,7 @@ def run_comparison(directory: HostDirectory, request: HostsRequest, part: NewFil
             copies={"old": old, "new": new, **request.trusted},
             exclusions=request.exclusions,
             target=part.fd,
-            max_report=min(MAX_JUDGED, directory.room(request.jobs)),
+            max_report=min(MAX_JUDGED, directory.room(request.jobs) // 2),
         )
     )
     if comparison.fault:

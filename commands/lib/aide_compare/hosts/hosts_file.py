@@ -3,13 +3,14 @@ from __future__ import annotations
 
 import os
 from collections.abc import Iterator
-from contextlib import contextmanager
+from contextlib import closing, contextmanager
 
-from aide_compare.base.directories import LISTING, closed_after, open_directory
+from aide_compare.base.directories import open_directory
 from aide_compare.base.ending import DeviceFault, OSErrorAsFault
 from aide_compare.base.escapes import shown
-from aide_compare.base.files import MAX_TRUSTED_BYTES, is_missing, lock, read_whole, trusted_text
+from aide_compare.base.files import MAX_TRUSTED_BYTES, Lock, is_missing, read_whole, trusted_text
 from aide_compare.base.replacement import replace
+from aide_compare.hosts.store import NAME
 
 WHAT = "the file of hosts"
 
@@ -19,6 +20,9 @@ def hosts_of(path: str) -> list[str]:
     data = b""
     if path == "-":
         data = read_whole(0, MAX_TRUSTED_BYTES, WHAT)
+    elif is_missing(path) and NAME.fullmatch(path):
+        advice = f"for one host: echo {path} | aide-compare hosts .. -"
+        raise DeviceFault(f"there is no file {path}", advice)
     elif not is_missing(path):
         data = trusted_text(path, WHAT)
     lines = [line.strip() for line in data.decode("utf-8", "surrogateescape").split("\n")]
@@ -40,12 +44,13 @@ def lines_without(host: str, path: str) -> tuple[list[bytes], bool]:
 
 @contextmanager
 def locked(path: str) -> Iterator[None]:
-    """A file that no other run changes meanwhile: its directory is locked."""
-    place = os.path.dirname(path) or "."
+    """A file that no other run changes meanwhile. Nobody else can write in its directory."""
+    place, name = os.path.split(path)
     words = f"cannot write {WHAT} {shown(path)}: its directory"
-    with open_directory(place, make=True) as directory, OSErrorAsFault(words):
-        with closed_after(os.open(".", LISTING, dir_fd=directory.fd)) as descriptor:
-            lock(descriptor)
+    with open_directory(place or ".", make=True) as directory, OSErrorAsFault(words):
+        if directory.others:
+            raise DeviceFault(f"{words}: other users can write there")
+        with closing(Lock(directory.fd, name)):
             yield
 
 

@@ -65,8 +65,9 @@ def write_kept(target: int, comparison: Comparison, limit: int) -> Counts | None
     if lines.is_cut:
         return None
     try:
-        judged = Judged(reader_over(lines.fd))
+        judged = Judged(reader_over(lines.fd), lines.others)
     except Refused as refused:
         raise DeviceFault(f"the lines of aide_lines are not understood: {refused}")
+    comparison.doubts += judged.doubts()
     write_blocks(target, kept_lines(judged, limit))
     return judged.counts
