@@ -37,7 +37,7 @@ signal.signal(signal.SIGPIPE, signal.SIG_DFL)
 os.execvp(sys.argv[1], sys.argv[1:])"""
 
 # The product's own command in a test's directory; after its imports names may get other values.
-FRONT = """#!/usr/bin/python3 -IS
+FRONT = """#!/usr/bin/python3 -ISXutf8
 import os, sys
 from _frozen_importlib_external import PathFinder
 

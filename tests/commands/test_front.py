@@ -37,7 +37,9 @@ class FrontTest(CommandTest):
         compare = (TOOL, "hosts", "compare", "--store", self.path("store"), "--no-fetch")
         told = b"nohost 18 nothing was fetched yet"
         self.answered(18, told, b"", *compare, "-", text=b"nohost\n")
-        self.refused(18, b"no host is in none: aide-compare hosts add adds one", *compare, "none")
+        self.refused(18, b"no host is in ./x: aide-compare hosts add adds one", *compare, "./x")
+        one = b"there is no file www\naide-compare hosts compare: for one host: echo www | "
+        self.refused(18, one, *compare, "www")
 
     def test_help(self) -> None:
         """The help fits one screen, and has each subcommand; the help of that has the words."""
@@ -67,12 +69,28 @@ class FrontTest(CommandTest):
     def test_misspelt(self) -> None:
         """What is no subcommand, or no option, ends with 15; nothing is compared."""
         for words, near in (
-            ("jsno", b"name both databases, OLD and NEW, or none, and not only jsno\n"),
-            ("stauts --max-age=1h", b"aide-compare --help, or aide-compare compare --help\n"),
+            ("jsno", b"there is no subcommand and no file jsno\naide-compare: did you mean: "),
+            ("comapre old.db new.db", b"did you mean: aide-compare compare\n"),
+            ("stauts --max-age=1h", b"did you mean: aide-compare status\n"),
+            ("report old.db new.db", b"no file report\naide-compare: to compare: aide-compare OLD"),
+            ("check", b"to compare: aide-compare OLD NEW, or without names"),
+            ("init", b"AIDE makes databases: aide --init; "),
+            ("--check", b"--check is a job of aide(1)\naide-compare: to compare: "),
+            ("-u", b"-u is a job of aide(1)\naide-compare: AIDE makes databases: aide --update"),
+            ("-c x --init", b"--init is a job of aide(1)\n"),
+            ("old.db", b"name both databases, OLD and NEW, or none, and not only old.db\n"),
+            ("hosts accept www", b"this prints: echo www | aide-compare hosts report -\n"),
+            ("help bogus", b"there are: compare, show, json, page, mail, "),
             ("hosts fecth www", b"try: aide-compare hosts --help\n"),
-            ("diff old.db new.db", b"more than two databases: new.db\n"),
+            ("diff old.db new.db", b"there is no subcommand and no file diff\n"),
+            ("old.db new.db new.db", b"more than two databases: new.db\n"),
+            ("--json old.db new.db", b"not only new.db; old.db is where an output goes (- prints"),
+            (
+                "--exclude /a /b old.db new.db",
+                b"new.db; each pattern needs an --exclude of its own",
+            ),
             ("--reprot old.db new.db", b"unrecognized arguments: --reprot\n"),
-            ("a\033[31m", b"and not only a\\033[31m\n"),
+            ("a\033[31m", b"no file a\\033[31m\n"),
             ("mail a", b"try: aide-compare mail --help\n"),
             ("-A \udcff old.db new.db", b"-A/--after: needs a text in UTF-8: \\377\n"),
             ("page --other", b"try: aide-compare page --help\n"),

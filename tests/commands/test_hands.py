@@ -57,6 +57,9 @@ class HandsTest(CommandTest):
             message = self.of_unit("aide-compare-failed.service", **more)
             self.assertEqual(mail.subject(message), mail.SUBJECT + "the comparison failed")
             self.assertEqual(mail.body(message), (failed % cause).encode())
+        message = self.of_unit("aide-compare-failed.service", MONITOR_SERVICE_RESULT="success")
+        begin = b"aide-compare.service did not begin: AIDE, for which it waits, has not ended or"
+        self.assertTrue(mail.body(message).startswith(begin), "a job that was timed out")
         self.assertIsNone(self.of_unit("aide-compare-mail.service"), "a success mails no failure")
 
     def test_defaults(self) -> None:

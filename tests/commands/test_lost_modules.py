@@ -44,7 +44,7 @@ class LostModulesTest(CommandTest):
 
     def test_others_modules(self) -> None:
         with open(FRONT, "rb") as file:
-            self.assertEqual(file.readline(), b"#!/usr/bin/python3 -IS\n")
+            self.assertEqual(file.readline(), b"#!/usr/bin/python3 -ISXutf8\n")
         words = ["/usr/bin/python3", "-c", "import site; print(*site.getsitepackages())"]
         found = subprocess.run(words, capture_output=True, check=True, text=True).stdout.split()
         folders = [path for path in found if os.path.isdir(path)]

@@ -7,7 +7,7 @@ import unittest
 from tests.commands.viewers.pages import HAS_NODE, seen
 
 from .units.calls import misused
-from .sandbox import CommandTest, END, HEAD
+from .sandbox import CommandTest, END, HEAD, NEW, OLD
 
 TOOL = "aide-compare show"
 COLUMNS = b"@@begin_db\n@@db_spec name lname attr perm bcount uid gid size mtime inode lcount"
@@ -18,16 +18,21 @@ PAIR = ("old.db", "new.db")
 
 class ShowTest(CommandTest):
     def test_kinds(self) -> None:
+        for name, text in zip(PAIR, (OLD, NEW)):
+            self.write(name, text.replace(END, b"/f%20g 36 100644 1\n" + END))
         for path, lines in (
             ("/a", "open medium added File: /a\n    size       5\n    mode       -rw-r--r--\n"),
             ("/b", "open medium removed Directory: /b\n    size       4096\n"),
             ("/c", "open medium changed File: /c\n    size       10 -> 7\n"),
-            ("/e", "no change at these paths\n"),
+            ("/b/", "open medium removed Directory: /b\n    size       4096\n"),
+            ("/e", "neither database has /e: AIDE has no rule for it, or it is misspelt\n"),
+            ("/f g", "no change: all that AIDE measures of /f g is as before\n"),
         ):
             names = [name + ".gz" * (path == "/c") for name in PAIR]
             answer = self.answered(7, None, [b"4 open of 4 changes"], TOOL, path, *names)
             self.assertTrue(answer.output.decode().startswith(lines), answer)
-        self.answered(0, b"no differences", None, TOOL, "/d", "new.db", "new.db.gz")
+        self.write("same.db", self.read("new.db"))
+        self.answered(0, b"no differences", None, TOOL, "/d", "new.db", "same.db")
         self.write("etc/without", "/d\n")
         self.answered(7, b"left out changed File: /d", None, TOOL, "/d", "old.db", "new.db")
 

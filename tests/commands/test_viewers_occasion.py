@@ -167,6 +167,7 @@ class OccasionTest(CommandTest):
         sides = {kind: {side: entry[side]} for kind, side in (("removed", "old"), ("added", "new"))}
         lone = changed(entry, old=..., new=...)
         silent = changed(entry, severity=...)
+        alone = changed(lone, severity=..., standing="same")
         recorded = changed(entry, standing="recorded", package="openssl 3.0.15")
         good: list[object] = [
             *objects,
@@ -178,6 +179,10 @@ class OccasionTest(CommandTest):
             changed(silent, same_as="old", standing="same"),
             changed(silent, same_as="trusted", standing="trusted"),
             changed(entry, same_as="trusted", standing="open"),
+            *(
+                changed(alone, kind=kind, same_as="trusted", standing="trusted", **side)
+                for kind, side in sides.items()
+            ),
             changed(silent, left_out=7, standing="left out"),
             changed(end, skipped={"new": ["fstype"]}, list={"sha256": "00" * 32}),
         ]
@@ -194,6 +199,7 @@ class OccasionTest(CommandTest):
             changed(entry, same_as="old"),
             changed(entry, same_as="old", standing="same"),
             changed(silent, same_as="old", standing="trusted"),
+            *(changed(alone, kind=kind, same_as="old", **side) for kind, side in sides.items()),
             *(changed(silent, standing=word) for word in ("same", "trusted", "left out")),
             changed(recorded, package=...),
             changed(entry, package="openssl 3.0.15"),

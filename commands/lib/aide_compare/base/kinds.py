@@ -58,6 +58,14 @@ def duration(text: str) -> int:
     return seconds
 
 
+def some_time(text: str) -> int:
+    """The same of at least a second."""
+    seconds = duration(text)
+    if not seconds:
+        raise refusal("at least 1s", text)
+    return seconds
+
+
 def pattern(text: str) -> Pattern:
     """A pattern of paths."""
     from aide_compare.base.paths import Pattern

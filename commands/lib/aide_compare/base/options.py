@@ -17,6 +17,7 @@ from aide_compare.base.kinds import (
     pattern,
     size,
     some_text,
+    some_time,
     text_in_utf8,
 )
 
@@ -192,7 +193,7 @@ MAIL_TIME = Option(
     "--mail-time",
     "how long sending may take (60s)",
     "TIME",
-    kind=duration,
+    kind=some_time,
     default=60,
 )
 ATTACH_PAGE = Option("--attach-page", "attach the page with all values to the text")

@@ -12,12 +12,13 @@ import os
 import re
 from collections.abc import Iterable, Mapping, Sequence
 from contextlib import suppress
+from functools import lru_cache
 from typing import Any, NamedTuple, NoReturn
 
 from aide_compare import VERSION
 from aide_compare.base.ending import Done, Fault, OSErrorAsFault, Status, tell, usage_fault
 from aide_compare.base.escapes import shown
-from aide_compare.base.files import lines_of
+from aide_compare.base.files import lines_of, trusted_text
 from aide_compare.base.kinds import some_text
 from aide_compare.base.options import (
     CHECK_DEFAULTS,
@@ -38,6 +39,7 @@ Given = dict[str, Any]
 
 OPERAND = "\0"  # Before a word that follows --. No argument has this byte.
 DIRECTORY = "/etc/aide-compare"
+DEFAULTS = "the defaults"
 DEFAULTS_LINE = r"(--[a-z-]+)(?:(?:=|[ \t]+)([^\0]*))?"
 MAY_BE_DEFAULTS = {
     option.name: option for option in (*COMPARISON_DEFAULTS, *MAIL_DEFAULTS, *CHECK_DEFAULTS)
@@ -206,6 +208,14 @@ def administrators_file(name: str) -> str | None:
     return None
 
 
+@lru_cache(maxsize=1)
+def defaults_file() -> tuple[str, bytes] | None:
+    """The path and the text of the defaults; None if there are none. A run reads them once: what it
+    obeys is what it looks up."""
+    path = administrators_file("defaults")
+    return (path, trusted_text(path, DEFAULTS)) if path else None
+
+
 def defaults_for(
     options: Iterable[Option], words: Sequence[str], passes_faults: bool = False
 ) -> Defaults:
@@ -215,14 +225,14 @@ def defaults_for(
     before = set(words[: end_of_options(words)])
     if before & {NO_DEFAULTS.name, "--help", "-h", "--version"}:
         return {}
-    path = administrators_file("defaults")
-    if path is None:
+    file = defaults_file()
+    if file is None:
         return {}
     defaults: Defaults = {}
     parser = Parser(Asked, Help("", ""))
     parser.add_rows(rows)
     passed_over = (Fault,) if passes_faults else ()
-    for line, place in lines_of(path, "the defaults"):
+    for line, place in lines_of(*file, DEFAULTS):
         with suppress(*passed_over):
             option, line_words = option_in(line, place)
             if option.attribute not in rows:

@@ -22,6 +22,11 @@ END_BYTES = 1 << 12  # The last line contains only digests, columns and counts.
 PROGRAM = "libexec/aide-compare/aide"
 LINES_PROGRAM = "libexec/aide-compare/aide_lines"
 FRONT = "bin/aide-compare"
+# This file is there if the program of lines is not proved, and is for looking only: `./compare` in
+# a clone puts it there.
+NOT_PROVED = "libexec/aide-compare/not-proved"
+WAY_OUT = "./compare --prove proves it"
+NOTICE = f"not proved yet: a program without a proof gave this answer, {WAY_OUT}"
 # A program may be there a second time, built for newer processors: those with x86-64-v3, by the
 # names of /proc/cpuinfo.
 NEWER = "-v3"
@@ -100,15 +105,32 @@ def find_installed(name: str) -> str:
     return builds[0]
 
 
-def installed_path(name: str) -> str:
-    """A file below the prefix of the commands, whose modules are in PREFIX/lib/aide-compare/python,
-    or PREFIX/lib in the repository. PATH does not count: the `aide` that it names is AIDE."""
+def path_below_prefix(name: str) -> str:
+    """Where a file is below the prefix of the commands, whose modules are in
+    PREFIX/lib/aide-compare/python, or PREFIX/lib in the repository."""
     modules = os.path.dirname(os.path.dirname(os.path.realpath(__file__)))
     library = os.path.dirname(modules)
     above = ".."
     if os.path.basename(library) == "python":
         above = "../../.."
-    path = os.path.join(os.path.realpath(os.path.join(library, above)), name)
+    return os.path.join(os.path.realpath(os.path.join(library, above)), name)
+
+
+def is_for_looking() -> bool:
+    """Whether the program is not proved. Then its answers say so, and only people read them."""
+    return os.path.lexists(path_below_prefix(NOT_PROVED))
+
+
+def need_proof(what: str) -> None:
+    """Refuses what takes an answer for the truth, if the program is not proved."""
+    if is_for_looking():
+        raise DeviceFault(f"{what} needs a proved program, and this one is not: {WAY_OUT}")
+
+
+def installed_path(name: str) -> str:
+    """A file below the prefix of the commands. PATH does not count: the `aide` that it names is
+    AIDE."""
+    path = path_below_prefix(name)
     if not (os.path.isfile(path) and os.access(path, os.X_OK)):
         raise DeviceFault(f"cannot find {shown(path)}, which came with this command")
     return path

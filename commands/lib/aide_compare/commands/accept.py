@@ -5,7 +5,7 @@ from __future__ import annotations
 import gzip
 import os
 from collections.abc import Iterator, Sequence
-from contextlib import suppress
+from contextlib import closing, suppress
 from typing import NamedTuple
 
 from aide_compare.base.ending import DeviceFault, Fault, Status, say, tell, usage_fault
@@ -96,7 +96,12 @@ def accept(request: AcceptRequest) -> Accepted:
     """Makes the new database the baseline. A database that is not meant is a Fault of status 24.
     Root opens both, and then becomes for good the user in whose directory the baseline is."""
     opened = open_database("new", request.new)
-    baseline = Baseline(request.baseline)
+    with closing(Baseline(request.baseline)) as baseline:
+        return accept_opened(request, opened, baseline)
+
+
+def accept_opened(request: AcceptRequest, opened: Opened, baseline: Baseline) -> Accepted:
+    """The same with both open, the baseline locked."""
     new = copy_opened(opened, request.max_size)
     if not new.sha256.startswith(request.digest):
         raise Fault(

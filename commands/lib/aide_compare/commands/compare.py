@@ -11,6 +11,8 @@ from typing import TYPE_CHECKING
 from aide_compare.base.ending import Fault, ReaderGone, write_blocks
 from aide_compare.base.escapes import encoded, shown
 from aide_compare.base.files import blocks_of, nameless, private_place
+from aide_compare.base.program import NOTICE, is_for_looking, need_proof
+from aide_compare.base.options import STATE
 from aide_compare.base.replacement import ANYBODY_READS, remove, replace
 from aide_compare.base.rights import become_owner, give_up
 from aide_compare.base.words import date_of, words_of_side
@@ -39,6 +41,7 @@ from aide_compare.compare.work import FAILURES, compare_opened, failed_compariso
 from aide_compare.lines.change import Counts
 from aide_compare.mail.message import clean
 from aide_compare.show.notes import no_difference, told_of
+from aide_compare.show.outputs import JSON
 
 if TYPE_CHECKING:
     from aide_compare.changes.judged import Judged
@@ -49,7 +52,7 @@ def keep_failure(path: str | None, error: Exception) -> None:
     """Writes into the state file that a run has failed, as by a fault in the defaults: otherwise
     the result of an earlier run would look like that of today. If it cannot be written, as on a
     full disk, it is removed."""
-    if path is None:
+    if path is None or is_for_looking():
         return
     with suppress(Fault, OSError):
         if os.path.lexists(path):
@@ -190,6 +193,8 @@ class ComparisonJob:
             raise failed
 
 
+# Outputs that programs read. Who reads them does not see that an answer is not proved.
+READ_BY_PROGRAMS = (STATE, JSON)
 NO_LIST = "the report does not use the list: it contains what is left out, and AIDE's status counts"
 # What standard output gets, unless -q says otherwise: what people read first, the changes of some
 # paths, the report of AIDE, or nothing.
@@ -239,6 +244,12 @@ class Printer:
         return comparison.state().told_status
 
     def _printed(self, comparison: Comparison, judged: Judged | None) -> Iterable[bytes]:
+        """What was asked for, and that it is not proved if that is so."""
+        if is_for_looking():
+            yield encoded(f"{NOTICE}\n")
+        yield from self._answer(comparison, judged)
+
+    def _answer(self, comparison: Comparison, judged: Judged | None) -> Iterable[bytes]:
         """What was asked for. If the changes are not known, that is the report."""
         if self.form != REPORT and comparison.status == 0:
             return [no_difference(comparison)]
@@ -285,7 +296,12 @@ def main(arguments: Sequence[str]) -> int:
         give_up(own_request.user)
     try:
         own_request = with_defaults(given, arguments)
+        for option in READ_BY_PROGRAMS:
+            if vars(own_request)[option.attribute]:
+                need_proof(option.name)
         printer = Printer(own_request)
+        if printer.form == REPORT:
+            need_proof("the report")
         job = printer.job()
     except Fault as fault:
         state = own_request.state or machines_state(own_request.databases, arguments)

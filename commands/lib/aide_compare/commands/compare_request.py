@@ -129,12 +129,17 @@ def checked(given: Given) -> CompareRequest:
     """What a command line alone asks for, with no database or with both."""
     request = filled(CompareRequest, given, {})
     databases = request.databases
+    text = ""
     if len(databases) == 1:
-        raise usage_fault(
-            f"name both databases, OLD and NEW, or none, and not only {shown(databases[0], 200)}"
-        )
+        text = f"name both databases, OLD and NEW, or none, and not only {shown(databases[0], 200)}"
+        if request.paths:
+            text += f"; {shown(request.paths[0], 200)} is where an output goes (- prints it)"
     if len(databases) > 2:
-        raise usage_fault(f"more than two databases: {shown(databases[-1], 200)}")
+        text = f"more than two databases: {shown(databases[-1], 200)}"
+        if request.exclude:
+            text += "; each pattern needs an --exclude of its own"
+    if text:
+        raise usage_fault(text)
     if request.configuration and not databases:
         raise usage_fault("--config names no databases: name OLD and NEW")
     return request

@@ -27,6 +27,8 @@ COMMANDS = (
 SHORT = {"json": ("--json", "-"), "page": ("--page", "-")}
 # Of these the module begins with hosts_.
 HOSTS = ("add", "list", "remove", "compare", "accept", "report")
+# What takes an answer for the truth: it refuses a program that is not proved.
+NEED_PROOF = ("mail", "accept", "setup")
 PROGRAM_JOBS = {"-E", "-D", "--compare", "--config-check"}
 USAGE = """\
 usage: aide-compare [compare] [OPTIONS] [OLD NEW]
@@ -59,6 +61,13 @@ usage: aide-compare hosts add [OPTIONS] HOST ...        new hosts: asks first
        aide-compare hosts report [OPTIONS] [FILE]       what differs on all
 
 Options: aide-compare hosts add --help. The manual: man aide-compare-hosts"""
+# What people type who know AIDE, and what does that here.
+CHECK = "to compare: aide-compare OLD NEW, or without names after aide-compare setup"
+INIT = "AIDE makes databases: aide --init; aide-compare setup has it make the first one"
+UPDATE = "AIDE makes databases: aide --update; aide-compare accept makes one the baseline"
+AIDES_JOBS = {"--check": CHECK, "-C": CHECK, "--init": INIT, "-i": INIT}
+AIDES_JOBS.update({"--update": UPDATE, "-u": UPDATE})
+NEAR = 0.7  # How alike words are, as difflib says it.
 HELP = ("--help", "-h")
 WORDS = (*COMMANDS, "hosts", "help")
 
@@ -80,6 +89,24 @@ def refuse(word: str, command: str) -> NoReturn:
     raise Fault(Status.USAGE, f"there is no {command} {shown(word, 100)}", f"try: {command} --help")
 
 
+def refuse_other_words(arguments: Sequence[str]) -> None:
+    """Refuses a job of AIDE, and a first word that is neither a subcommand nor a database."""
+    word = next(iter(arguments), "")
+    if word.startswith("-"):
+        for job in AIDES_JOBS.keys() & set(arguments):
+            raise Fault(Status.USAGE, f"{job} is a job of aide(1)", AIDES_JOBS[job])
+        return
+    if not word or "/" in word or "." in word or os.path.lexists(word):
+        return
+    import difflib
+
+    near = difflib.get_close_matches(word, WORDS, 1, NEAR)
+    advice = AIDES_JOBS.get(f"--{word}", f"{CHECK}; the subcommands: aide-compare help")
+    if near:
+        advice = f"did you mean: aide-compare {near[0]}"
+    raise Fault(Status.USAGE, f"there is no subcommand and no file {shown(word, 100)}", advice)
+
+
 def print_usage(text: str) -> int:
     tell(text)
     return Status.OK
@@ -94,6 +121,14 @@ def loaded(name: str) -> Callable[[Sequence[str]], int]:
     return main
 
 
+def check_proof(word: str, arguments: Sequence[str]) -> None:
+    """Refuses a program that is not proved, but prints the help of the subcommand."""
+    from aide_compare.base.program import need_proof
+
+    if not set(HELP) & set(arguments):
+        need_proof(word)
+
+
 def run_hosts(arguments: Sequence[str]) -> int:
     if not arguments or arguments[0] in HELP:
         return print_usage(HOSTS_USAGE)
@@ -101,6 +136,7 @@ def run_hosts(arguments: Sequence[str]) -> int:
     if word not in HOSTS:
         refuse(word, "aide-compare hosts")
     called(f"aide-compare hosts {word}")
+    check_proof(f"hosts {word}", arguments)
     return loaded(f"hosts_{word}")(arguments[1:])
 
 
@@ -109,7 +145,8 @@ def print_help(words: Sequence[str]) -> int:
     if not words or words[0] in HELP:
         return print_usage(USAGE)
     if words[0] not in WORDS:
-        refuse(words[0], "aide-compare help")
+        text = f"there is no aide-compare {shown(words[0], 100)}"
+        raise Fault(Status.USAGE, text, f"there are: {', '.join(WORDS)}")
     if words[0] == "hosts":
         return main([*words[:2], "--help"])
     return main([words[0], "--help"])
@@ -129,12 +166,15 @@ def main(arguments: Sequence[str]) -> int:
         return run_command("version", arguments[1:])
     if word in COMMANDS:
         return run_command(word, arguments[1:])
+    refuse_other_words(arguments)
     return run_command("compare", arguments)
 
 
 def run_command(name: str, arguments: Sequence[str]) -> int:
     if name != "compare":
         called(f"aide-compare {name}")
+    if name in NEED_PROOF:
+        check_proof(name, arguments)
     if name in SHORT:
         return loaded("compare")([*SHORT[name], *arguments])
     return loaded(name)(arguments)

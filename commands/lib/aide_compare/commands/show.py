@@ -18,7 +18,7 @@ def pattern_of(text: str) -> str:
     path = unshown(os.fsencode(text))
     if not path.startswith(b"/"):
         raise Fault(Status.USAGE, f"a path begins with /: {shown(path, 200)}")
-    return os.fsdecode(WILD.sub(rb"\\\g<0>", path))
+    return os.fsdecode(WILD.sub(rb"\\\g<0>", path.rstrip(b"/") or path))
 
 
 def main(arguments: Sequence[str]) -> int:

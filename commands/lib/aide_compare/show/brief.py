@@ -58,7 +58,8 @@ def brief(judged: Judged, room: Room, warnings: Sequence[str] = (), height: int 
     def lines_of(places: Iterable[int]) -> Iterator[str]:
         for place in places:
             change = judged.read(place)
-            yield entry_line(change, entry_words(change), "  ", room.width)
+            words = entry_words(change, member=judged.members.get(change.path, ""))
+            yield entry_line(change, words, "  ", room.width)
 
     lines = head
     for part in (list(open_lines(judged.table, room, in_directory, lines_of)), *end):

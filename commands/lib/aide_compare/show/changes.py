@@ -2,11 +2,15 @@
 from __future__ import annotations
 
 import json
+import os
 from collections.abc import Collection, Iterator
 from typing import TYPE_CHECKING, NamedTuple
 
+from aide_compare.base.database import Kind, Layout
 from aide_compare.base.escapes import encoded, guarded, shown
-from aide_compare.base.words import date_of
+from aide_compare.base.files import BLOCK, reopened
+from aide_compare.base.paths import WILD, key_of_path
+from aide_compare.base.words import SIDES, date_of
 from aide_compare.lines.attributes import FORMS, STRENGTH, word_of
 from aide_compare.lines.change import Change, Value, change_of
 from aide_compare.lines.readable import texts_of
@@ -16,6 +20,7 @@ if TYPE_CHECKING:
     from aide_compare.base.paths import Pattern
     from aide_compare.changes.judged import Judged
     from aide_compare.compare.comparison import Comparison
+    from aide_compare.compare.unpack import Copy
 
 
 def _shown(label: str, value: Value, text: str | None) -> str | None:
@@ -65,6 +70,8 @@ def changes_with_values(
 ) -> Iterator[bytes]:
     """The changes of the paths that a pattern means, each with its standing and its values."""
     is_there = False
+    if judged and judged.only_counted:
+        judged = None
     for line, marks in judged.lines() if judged else marked_lines(comparison.reader()):
         change = change_of(json.loads(line))
         if pattern.matches(change.path[1:].split(b"/")):
@@ -75,7 +82,28 @@ def changes_with_values(
             yield encoded("".join(lines))
             is_there = True
     if not is_there:
-        yield b"no change at these paths\n"
+        yield encoded(f"{why_none(comparison, pattern)}\n")
+
+
+def why_none(comparison: Comparison, pattern: Pattern) -> str:
+    """Why there is no change at the paths of a pattern."""
+    if WILD.search(pattern.text):
+        return "no change at these paths"
+    name = shown(pattern.text)
+    if any(has_path(comparison.copies[side], pattern.text) for side in SIDES):
+        return f"no change: all that AIDE measures of {name} is as before"
+    return f"neither database has {name}: AIDE has no rule for it, or it is misspelt"
+
+
+def has_path(copy: Copy, path: bytes) -> bool:
+    """Whether a database has an entry at a path."""
+    layout = Layout()
+    key = key_of_path(path)
+    with open(reopened(copy.fd, os.O_RDONLY), "rb", BLOCK) as database:
+        for line in database:
+            if layout.kind_of(line) is Kind.ENTRY and layout.key_of(line) == key:
+                return True
+    return False
 
 
 def change_lines(change: Change, various: Collection[str] = ()) -> Iterator[str]:

@@ -187,12 +187,14 @@ def rest_words(
 ) -> Iterator[str]:
     """How many changes of a part are not listed, and where most of them are, in a few lines."""
     for number, (site, count) in enumerate(table.ask(MOST, level, owners, room.named), 1):
-        if number < room.named or count == left:
-            words = f"and {count} more "
-        else:
+        words = f"and {count} more "
+        if number == room.named and count < left:
             words = f"and {left} more, {count} of them "
+            count = left
         yield words + names(site, room.width and room.width - len("  ") - len(words))
         left -= count
+    if left:
+        yield f"and {left} more"  # They are in no table.
 
 
 def shortened(text: str, width: int) -> str:

@@ -1,6 +1,7 @@
 """What has changed of an entry, in the words of one line."""
 from __future__ import annotations
 
+import re
 import stat
 from collections.abc import Collection
 
@@ -16,6 +17,8 @@ TIMES_IN_ORDER = ("Mtime", "Ctime", "Atime")
 PAIRS = ("Type", "Perm", "UID", "GID", "Size", "Linkcount")
 OTHERS = ("Lname", "ACL", "XAttrs", "SELinux", "E2FSAttrs", "Caps")
 # What is named only if nothing else has changed.
+# The summary of a link whose target neither side has.
+UNKNOWN_TARGET = re.compile("l ")
 ALONE = {"Inode": "another inode", "Bcount": "blocks"}
 
 
@@ -80,7 +83,7 @@ def _time_words(old: Values, new: Values, label: str) -> str:
     return f"{label.lower()} {dates[0]} -> {dates[1]}"
 
 
-def _changed_words(change: Change, unknown: Collection[str]) -> str:
+def _changed_words(change: Change, unknown: Collection[str], member: str) -> str:
     """As in "content, mode -rwxr-xr-x -> -rwsr-xr-x, 2026-11-25 06:00 UTC"."""
     old, new = change.sides
     old_kind, new_kind = kinds_of(change)
@@ -97,7 +100,10 @@ def _changed_words(change: Change, unknown: Collection[str]) -> str:
     words += [word_of(label) for label in OTHERS if label in differ]
     if not words:
         words = [word for label, word in ALONE.items() if label in differ][:1]
+        if words and UNKNOWN_TARGET.match(change.letters):
+            words.append("the rule records no target")
     if words:
+        words += filter(None, [member])
         return ", ".join(words + _when(old, new))
     for label in TIMES_IN_ORDER:  # Only the first one that differs.
         if label in unknown:
@@ -107,11 +113,11 @@ def _changed_words(change: Change, unknown: Collection[str]) -> str:
     return ""
 
 
-def entry_words(change: Change, unknown: Collection[str] = ()) -> str:
+def entry_words(change: Change, unknown: Collection[str] = (), member: str = "") -> str:
     """The words for an entry, by its line. `unknown` are attributes that differ too, and whose
-    values are not known."""
+    values are not known; `member` says what came into a directory, or went."""
     if change.kind == "changed":
-        return _changed_words(change, unknown)
+        return _changed_words(change, unknown, member)
     if change.kind == "removed":
         words = _side_words(change.old, change.type)
     else:

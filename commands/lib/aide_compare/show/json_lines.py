@@ -65,6 +65,8 @@ def marked_line(line: bytes, marks: Marks) -> bytes:
 
 def added_lines(comparison: Comparison, judged: Judged | None) -> Iterator[bytes]:
     """Yields the lines of a comparison with what is added."""
+    if judged and judged.only_counted:
+        judged = None
     reader = judged.reader if judged else comparison.reader()
     yield line_of(summary_of(reader.summary, comparison))
     for line, marks in judged.lines() if judged else marked_lines(reader):

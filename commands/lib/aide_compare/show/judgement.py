@@ -6,13 +6,16 @@ from aide_compare.base.words import TRUSTED_SIDES
 from aide_compare.changes.judged import Judged, named_packages
 from aide_compare.changes.recorded import records_of_host
 from aide_compare.compare.comparison import Comparison
+from aide_compare.lines.reader import reader_over
 
 
 def judge(comparison: Comparison) -> Judged | None:
     """The changes of a comparison, which gets their standings. If they cannot be judged, a doubt
     says why, and without standings every change is an alarm."""
     try:
-        judged = Judged(comparison.reader())
+        lines = comparison.whole_lines()
+        judged = Judged(reader_over(lines.fd), lines.others)
+        comparison.doubts += judged.doubts()
         group(comparison, judged)
         comparison.standings = judged.counts
     except Exception as error:  # A fault here must not cost the alarm.

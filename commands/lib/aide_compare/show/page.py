@@ -15,6 +15,7 @@ from typing import TYPE_CHECKING
 
 from aide_compare.base.escapes import encoded, guarded, shown
 from aide_compare.base.files import private_file
+from aide_compare.base.program import NOTICE, is_for_looking
 from aide_compare.base.words import KINDS, SEVERITIES, SIDES, capitalized, minute_of
 from aide_compare.lines.attributes import CONTENT, FORMS, STRENGTH, word_of
 from aide_compare.changes.table import BY_PACKAGE, LISTED, RECORDED, Marks
@@ -93,7 +94,8 @@ def page(
     title: str, digest: str, rows: Iterable[bytes], heading: Callable[[], Fields]
 ) -> Iterator[bytes]:
     """Yields a page. `digest` is what is seen without the script; the heading is made when all rows
-    were."""
+    were. What is not proved says so above all else."""
+    notice = f'<p class="notice">{NOTICE}</p>\n' if is_for_looking() else ""
     style = part_of("page.css")
     script = script_of()
     policy = POLICY.format(style=digest_of(style), script=digest_of(script))
@@ -102,6 +104,7 @@ def page(
         style=style,
         script=script,
         policy=policy,
+        notice=notice,
         digest=encoded(escape(digest))[:MAX_DIGEST].decode("utf-8", "ignore"),
     )
     yield head.encode("utf-8", "backslashreplace")
@@ -271,7 +274,8 @@ def heading_of(comparison: Comparison, rows: PageRows, title: str) -> Fields:
     remarks = rows.remarks()
     if counts.left_out:
         remarks.insert(0, f"{capitalized(counts.left_out_words())}.")
-    remarks += [guarded(capitalized(note)) for note in comparison.notes[:MAX_NOTES]]
+    notes = [*comparison.doubts, *comparison.notes]
+    remarks += [guarded(capitalized(note)) for note in notes[:MAX_NOTES]]
     total = f"{end.total:,} in the new database"
     return {
         "title": title,

@@ -1,6 +1,7 @@
 """The result of a comparison in words, as its state file has it."""
 from __future__ import annotations
 
+from aide_compare.base.options import MAX_RESULT_AGE
 from aide_compare.base.words import age_in_words, minute_of
 from aide_compare.compare.state import State, not_compared
 
@@ -18,7 +19,15 @@ def result_text(state: State) -> str:
                 text += f"; {state.standings.left_out_words()}"
     if state.skipped:
         text += f"; {not_compared(state.skipped)}"
-    return text
+    return text + late_text(state)
+
+
+def late_text(state: State) -> str:
+    """As in "; the new database was 29 hours old"; "" unless AIDE has missed a night."""
+    age = state.time - (state.new_written or state.time)
+    if age <= MAX_RESULT_AGE:
+        return ""
+    return f"; the new database was {age_in_words(age)} old"
 
 
 def result_numbers(state: State) -> str:
