@@ -25,6 +25,7 @@ from tools.source.worked_examples import ENTRIES, LISTS, examples_of, things_of
 
 PAGE, THEOREM_PAGE = "docs/HEADLINE.md", "docs/HEADLINE_LINES.md"
 LISTS_PAGE, LINES_PAGE = "docs/HEADLINE_LISTS.md", "docs/HEADLINE_JSON.md"
+OF_LINES = ("a_trusted_run_says_all", "a_run_says_all", "a_fault_leaves_lines_unfinished")
 OF_LISTS = (
     "entries_come_first",
     "rights_are_told",
@@ -53,10 +54,16 @@ RIGHTS = ("aide_left_out", "Meaning", "GivesRight")
 RULE = ("aide_patterns", "Line", "RuleText")
 READING = ("aide_patterns", "List", "IsReading")
 MEASURES = ("aide_line_run", "Listed", "measures_between")
+# Which texts are sound databases, which the page of the report has.
+SOUND = ("aide_db", "Database", "IsSound")
 # What lines of JSON are as texts, which the page of the calls has.
 JSON = ("aide_line_laws", "JsonLine", "AreJsonLines")
-# What a field means, and which number digits write, which the page of the report has.
-VALUES = [("aide_entry", "Values", "value_of"), ("aide_entry", "Numbers", "bits_of")]
+# The entry of a line, and which columns and entry lines a text has, which the page of the report has.
+ENTRIES_OF_TEXTS = [
+    ("aide_entry", "Entry", "entry_of"),
+    ("aide_db", "Giving", "columns_of_text"),
+    ("aide_db", "Giving", "entry_lines"),
+]
 # The records of a run, and what contracts see of devices, which the page of the theorem leaves out.
 RUNS = [
     ("aide_line_run", "LinesRun", "IsLinesRun"),
@@ -103,7 +110,7 @@ class Page:
         examples: dict[Place, list[str]] | None = None,
     ) -> None:
         self.definitions = definitions
-        self.examples = examples or {}
+        self.examples = {} if examples is None else examples
         self.name = name
         self.blocks: list[str] = []
         self.sections: dict[str, list[str]] = {}
@@ -139,10 +146,7 @@ class Page:
         self.blocks.append("\n".join(self.shown(new))[1:])
 
     def things(self, file: str) -> None:
-        """A block with the entries or lists that the page's examples are about. An example whose
-        definition is not on the page ends the program."""
-        if self.examples:
-            sys.exit(f"{file}: no page has {[place[2] for place in self.examples]}")
+        """A block with the entries or lists that examples are about."""
         self.blocks.append("\n".join(things_of(file)))
 
     def shown(self, places: Places) -> list[str]:
@@ -171,20 +175,19 @@ class Page:
         return any(used[:2] == file for used in self.definitions.used_by(place)[0])
 
 
-def theorem(definitions: Definitions, known: Places) -> Page:
-    """The page of what lines say of the databases, and each definition that its laws rest on; what
-    is `known` from the page of the report is not explained again."""
+def theorem(definitions: Definitions, examples: dict[Place, list[str]]) -> Page:
+    """The page of what lines say of the databases, and each definition that its laws rest on. It
+    takes the examples of these away."""
     text = read(LAWS)
-    laws = [law_of(text, name) for name in ("a_trusted_run_says_all", "a_run_says_all")]
-    made = Page(definitions, THEOREM_PAGE, examples=examples_of(ENTRIES))
+    laws = [law_of(text, name) for name in OF_LINES]
+    made = Page(definitions, THEOREM_PAGE, examples=examples)
     made.blocks.append("\n\n".join(laws))
     silent = {name: ("aide_line_laws", "OverMaps", name) for name in ("IsAccount", "differ_beyond")}
     made.part(" ".join(silent), silent)
-    stops = [*RUNS, MAP, LEFT_OUT, MEASURES, RULE, JSON]
+    stops = [*RUNS, MAP, LEFT_OUT, MEASURES, RULE, JSON, SOUND]
     made.part("\n".join(laws), imports_of(text), stops)
-    made.part(MAP[2], {MAP[2]: MAP}, VALUES)
+    made.part(MAP[2], {MAP[2]: MAP}, ENTRIES_OF_TEXTS)
     made.things(ENTRIES)
-    made.sections[TYPES] = types_of(made.outside, known)
     return made
 
 
@@ -209,7 +212,9 @@ def lists(definitions: Definitions, printed: Places) -> Page:
 def pages() -> dict[str, str]:
     """The texts of all pages, by their names."""
     definitions, record = Definitions(crates()), read(RUN_RECORD)
-    made = Page(definitions, PAGE)
+    examples = examples_of(ENTRIES)
+    silent = theorem(definitions, examples)
+    made = Page(definitions, PAGE, examples=examples)
     compare, program = made.contracts((COMPARE, "compare_databases"), (PROGRAM, "run_program"))
     made.part(compare, imports_of(read(COMPARE)))
     made.part(program, imports_of(read(PROGRAM)), PREMISES)
@@ -221,14 +226,17 @@ def pages() -> dict[str, str]:
         [compare, program]
     )
     made.sections[TYPES] = types_of(made.outside)
-    silent = theorem(definitions, made.outside)
-    listed = lists(definitions, silent.printed)
+    silent.sections[TYPES] = types_of(silent.outside, made.outside)
+    listed = lists(definitions, [*printed, *silent.printed])
     listed.sections[TYPES] = types_of(listed.outside, made.outside + silent.outside)
     lines = Page(definitions, LINES_PAGE, [*printed, *listed.printed])
     (program,) = lines.contracts((PROGRAM_LINES, "run_lines_program"))
     lines.part(program, imports_of(read(PROGRAM_LINES)), PREMISES + PREMISES_TRUSTED)
     lines.part(JSON[2], {JSON[2]: JSON})
     lines.sections[TYPES] = types_of(lines.outside, made.outside)
+    for file, left in ((ENTRIES, examples), (LISTS, listed.examples)):
+        if left:
+            sys.exit(f"{file}: no page has {[place[2] for place in left]}")
     every = (made, silent, listed, lines)
     texts = {page.name: page.text() for page in every}
     check_words([word for page in every for word in page.outside], "\n".join(texts.values()))
