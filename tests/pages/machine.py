@@ -213,5 +213,7 @@ class MachineTest(ScratchTest):
             os.symlink(program, os.path.join(built, name))
         for name in ("examples", "commands"):
             os.symlink(os.path.join(TOP, name), os.path.join(place, name))
-        self.write("/tmp/clone/compare", '#!/bin/sh\nexec aide-compare "$@"\n', 0o755)
+        # The program is there: nothing is proved.
+        text = '#!/bin/sh\n[ "$*" = --prove ] || exec aide-compare "$@"\n'
+        self.write("/tmp/clone/compare", text, 0o755)
         return place

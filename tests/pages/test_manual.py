@@ -20,6 +20,7 @@ from tests.oracle import configuration
 from tests.oracle.attributes import ATTRIBUTES, EMPTY_NAMES, GROUPS
 from tests.oracle.configuration import LEVELS, OLDER_OPTIONS, WITHOUT_EFFECT
 from tests.oracle.database import BYTE_LIMIT, COLUMN_LIMIT, LINE_LIMIT
+from tests.oracle.patterns import MOST_RULES
 from tests.oracle.session import CONFIGURATION_LIMIT, CONFIGURATION_WORDS, DATABASE_WORDS
 from tests.oracle.session import LIST_WORDS
 from tests.pages.blocks import MANUALS
@@ -58,6 +59,8 @@ LIMITS = {
     "configuration, groups": configuration.COUNT_LIMIT,
     "variable or database path, bytes": configuration.VALUE_LIMIT,
     "name of a variable or group, bytes": NAME_LIMIT,
+    "list, lines that name paths": MOST_RULES,
+    "list, bytes, by the limit of Linux for an argument": (128 << 10) - 1,
 }
 
 

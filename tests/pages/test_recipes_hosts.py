@@ -23,7 +23,7 @@ SENT: dict[str, tuple[str | bytes, int, str]] = {
     "down": (OLD, 18, "No route to host"),
     "loud": (OLD, 18, "sent errors of more than 65536 bytes"),
     "silent": (OLD, 18, "sent nothing"),
-    "broken": (OLD, 18, "ssh ended with 255"),
+    "broken": (OLD, 18, "(ssh: status 255)"),
     "first": (OLD, 18, "no baseline yet"),
 }
 REFUSED = ("a b", "é", "-x", "a/b", "a..b", "..", "$(touch x)")
@@ -91,7 +91,7 @@ class HostsTest(RecipesTest):
             f"{both}added File: /a é\n",
             f"{both}changed File: /c\n",
             "\n  forged: ",
-            "\n  down: ssh: connect to host down port 22: No route to host",
+            '\n  down: "ssh: connect to host down port 22: No route to host"',
             "\n  a b: the name of a host",
         ):
             self.assertIn(text, output)

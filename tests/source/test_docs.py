@@ -15,6 +15,8 @@ from tools.source import headline_page
 from tools.source.checker import below, libraries
 from tools.source.definitions import Definitions, crates
 
+# The crates whose calls are steps of other crates.
+INSIDES = ("aide_merge", "aide_site")
 MOST_LINES = {"README.md": 120, "docs/HEADLINE_LINES.md": 600}
 ENDINGS = r"(?:rt|antt|py|md|sh|c|txt|conf|edit|[15])"
 NAMED = re.compile(r"`((?:[\w.-]+/)*[\w.-]+\.%s)`" % ENDINGS)
@@ -122,7 +124,7 @@ class Docs(unittest.TestCase):
 
     def test_specs_are_what_is_promised(self) -> None:
         """A folder `specs/` has just the files that public contracts reach or laws cite, and
-        `specs/code/` has the others. `aide_merge` is the inside of others, which may cite these."""
+        `specs/code/` has the others, which an inside of other crates may cite."""
         found = public_specs.met()
         for crate in crates():
             files = specs_of(crate)
@@ -131,14 +133,14 @@ class Docs(unittest.TestCase):
             cite = re.compile(rf"^use Rattle\.{crate}\.specs\.(\w+)\.", re.M)
             cited = {name for path in laws for name in cite.findall(read(path))}
             self.assertEqual(files - inside - found[crate] - cited, set(), crate)
-            if crate != "aide_merge":
+            if crate not in INSIDES:
                 self.assertEqual(inside & found[crate], set(), crate)
 
     def test_clauses_that_the_library_page_names(self) -> None:
         sources = {
             "run": "crates/aide_report/src/comparison.rt",
             "run_lines": "crates/aide_line_run/src/run.rt",
-            "session": "crates/aide_session/src/program.rt",
+            "session": "crates/aide_report_session/src/program.rt",
         }
         page = self.pages["docs/LIBRARY.md"]
         parts = re.split(r"\n### What a caller of `(\w+)` may rely on\n", page)
@@ -154,7 +156,7 @@ class Docs(unittest.TestCase):
         copied: set[str] = set()
         for crate, first, last in (
             ("aide_report", "for crate in ", "; do"),
-            ("aide_session", "A caller of `session` needs ", " too,"),
+            ("aide_report_session", "A caller of `session` needs ", " too,"),
         ):
             text = self.pages["docs/LIBRARY.md"].partition(first)[2].partition(last)[0]
             copied.update(re.findall(r"\baide_\w+", text))
