@@ -173,6 +173,13 @@ REMOVED = (
     b"/usr/share/ca-certificates/mozilla/x.crt",
     b"/usr/local/share/ca-certificates/x.crt",
 )
+# What comes in packages by dozens, and is high.
+CERTIFICATES = (
+    b"/etc/ssl/certs/x.pem",
+    b"/etc/ssl/certs/ca-certificates.crt",
+    b"/etc/ca-certificates.conf",
+    b"/usr/share/ca-certificates/mozilla/x.crt",
+)
 SHIPPED_TABLE = Severity()
 TABLE = b"low added,link /opt/*\nhigh any /opt/*\n"
 
@@ -238,6 +245,16 @@ class SeverityTest(ModuleTest):
         for program in PROGRAMS:
             level = level_of(program, None, entry(PROGRAM))
             self.expect(f"a program {program.decode()}", level, "high")
+
+    def test_certificates(self) -> None:
+        """Those of packages come after all else that is high."""
+        first = min(rank_of(path, None, entry(FILE)) for path in CERTIFICATES)
+        others = map(os.fsencode, SHIPPED["high"].split())
+        ranks = [
+            *(rank_of(path, None, entry(FILE)) for path in others if path not in CERTIFICATES),
+            *(rank_of(path, None, entry(PROGRAM)) for path in PROGRAMS),
+        ]
+        self.assertLess(max(ranks), first)
 
     def test_lines(self) -> None:
         """Each line of the shipped table decides on some change that is tried here."""
