@@ -11,13 +11,23 @@ import unittest
 from tests.lib.scratch import TOP, read
 from tests.pages.blocks import blocks_of
 from tests.source import public_specs
-from tools.source import headline_page
+from tools.source import headline_page, proved_page
 from tools.source.checker import below, libraries
 from tools.source.definitions import Definitions, crates
 
 # The crates whose calls are steps of other crates.
 INSIDES = ("aide_merge", "aide_site")
-MOST_LINES = {"README.md": 120, "docs/HEADLINE_LINES.md": 600}
+MOST_LINES = {"README.md": 120, proved_page.PROVED: 450}
+# Pages for readers of the crates, which cite definitions.
+OF_READERS = (
+    proved_page.PROVED,
+    "docs/ARCHITECTURE.md",
+    "docs/CONTRACTS.md",
+    "docs/DECISIONS.md",
+    "docs/LIBRARY.md",
+)
+# Pages whose blocks tools/headline makes.
+OF_DEFINITIONS = {headline_page.TEMPLATE, proved_page.PROVED}
 ENDINGS = r"(?:rt|antt|py|md|sh|c|txt|conf|edit|[15])"
 NAMED = re.compile(r"`((?:[\w.-]+/)*[\w.-]+\.%s)`" % ENDINGS)
 BELOW = re.compile(
@@ -97,7 +107,7 @@ class Docs(unittest.TestCase):
         for page, text in self.pages.items():
             plain = re.sub(r"```.*?```", "", text, flags=re.S)
             for name in sorted(set(NAMED.findall(plain)) | set(BELOW.findall(plain))):
-                is_left_out = "NAME" in name or "/out/" in name
+                is_left_out = "NAME" in name or "/out/" in "/" + name
                 is_right = is_left_out or is_there(name.rstrip("/"), self.paths)
                 self.assertTrue(is_right, f"{page}: {name}")
 
@@ -109,14 +119,24 @@ class Docs(unittest.TestCase):
             self.assertEqual(block, read(name), name)
 
     def test_each_block_has_a_mark_that_says_how_it_is_tried(self) -> None:
-        for page in self.pages.keys() - headline_page.pages().keys():
+        for page in self.pages.keys() - OF_DEFINITIONS:
             for block in blocks_of(page):
                 is_right = block.marks or block.text.startswith(("flowchart ", "sequenceDiagram\n"))
                 self.assertTrue(is_right, f"{page}:{block.line}")
 
-    def test_pages_of_the_headline_have_the_definitions_of_now(self) -> None:
-        for name, text in headline_page.pages().items():
-            self.assertEqual(self.pages[name], text, name)
+    def test_what_is_proved_has_the_definitions_of_now(self) -> None:
+        self.assertEqual(self.pages[proved_page.PROVED], proved_page.proved())
+
+    def test_names_of_definitions_are_there(self) -> None:
+        """Each name in CamelCase or with `_` that a page for readers of the crates cites is a name
+        of the page with all definitions, or of the code."""
+        paths = [path for path in self.paths if path.endswith((".rt", ".antt", ".edit", ".py"))]
+        texts = [headline_page.whole(), *self.paths, *map(read_text, paths)]
+        known = set(re.findall(r"\w+", " ".join(texts)))
+        for page in OF_READERS:
+            plain = re.sub(r"```.*?```", "", self.pages[page], flags=re.S)
+            cited = set(re.findall(r"`(?:\w+::)*(\w*[a-z](?:_\w|[A-Z])\w*)`", plain))
+            self.assertEqual(cited - known, set(), page)
 
     def test_pages_are_not_longer_than_a_person_reads_at_once(self) -> None:
         for name, most in MOST_LINES.items():

@@ -1,30 +1,24 @@
-"""Prints docs/HEADLINE.md, docs/HEADLINE_LINES.md, docs/HEADLINE_LISTS.md and
-docs/HEADLINE_JSON.md with their definitions as they are now: the headline of the report, what the
-lines of JSON say of the databases, what a list leaves out, and what the call that writes lines
-promises.
+"""Makes the page of the headlines from the definitions as they are now: the report of two
+databases, what the lines of JSON say of them, what a list leaves out, and what the call that writes
+lines promises. Nobody commits it.
 
-The prose is that of the pages. What stands in blocks and in the tables at the end is made anew.
-From the contracts of `aide_headline`, and from the laws of `aide_line_laws` that the second page
-begins with, this follows each name to its definition, and from there to the definitions that it
-uses. A definition comes before those that it uses. With --write the pages are written;
-tests/source/test_docs.py compares them with the definitions.
+The prose is that of tools/source/headline.md, one part for each headline. From the contracts of
+`aide_headline`, and from the laws of `aide_line_laws`, this follows each name to its definition,
+and from there to the definitions that it uses. A definition comes before those that it uses.
 """
 from __future__ import annotations
 
-import os
 import re
 import sys
 from collections.abc import Sequence
 
-from tests.lib.scratch import TOP, read
-from tools.lib.arguments import parser_of
+from tests.lib.scratch import read
 from tools.source.definition_lines import shown, users_first, wrapped
 from tools.source.definitions import WORD, Definitions, Place, Places, crates, imports_of
 from tools.source.headline_tables import check_words, members_of, types_of
 from tools.source.worked_examples import ENTRIES, LISTS, examples_of, things_of
 
-PAGE, THEOREM_PAGE = "docs/HEADLINE.md", "docs/HEADLINE_LINES.md"
-LISTS_PAGE, LINES_PAGE = "docs/HEADLINE_LISTS.md", "docs/HEADLINE_JSON.md"
+TEMPLATE = "tools/source/headline.md"
 OF_LINES = ("a_trusted_run_says_all", "a_run_says_all", "a_fault_leaves_lines_unfinished")
 OF_LISTS = (
     "entries_come_first",
@@ -105,24 +99,24 @@ class Page:
     def __init__(
         self,
         definitions: Definitions,
-        name: str,
+        template: str,
         printed: Sequence[Place] = (),
         examples: dict[Place, list[str]] | None = None,
     ) -> None:
         self.definitions = definitions
         self.examples = {} if examples is None else examples
-        self.name = name
+        self.template = template
         self.blocks: list[str] = []
         self.sections: dict[str, list[str]] = {}
         self.printed = list(printed)
         self.outside: list[Place] = []
 
     def text(self) -> str:
-        """The page as it is, with these blocks and sections in place of those that it has."""
+        """The template with these blocks and sections in place of those that it has."""
         blocks = iter(self.blocks)
-        text = BLOCK.sub(lambda found: found[1] + next(blocks) + found[2], read(self.name))
+        text = BLOCK.sub(lambda found: found[1] + next(blocks) + found[2], self.template)
         if next(blocks, None) is not None:
-            sys.exit(f"{self.name}: it has {len(BLOCK.findall(text))} blocks, not {self.blocks}")
+            sys.exit(f"a page has {len(BLOCK.findall(text))} blocks, not {self.blocks}")
         for title, lines in self.sections.items():
             section = re.compile(rf"(?<=\n## {title}\n\n).*?(?=\n## |\Z)", re.S)
             text = section.sub(lambda _: "\n".join(lines) + "\n", text)
@@ -175,12 +169,12 @@ class Page:
         return any(used[:2] == file for used in self.definitions.used_by(place)[0])
 
 
-def theorem(definitions: Definitions, examples: dict[Place, list[str]]) -> Page:
-    """The page of what lines say of the databases, and each definition that its laws rest on. It
+def theorem(definitions: Definitions, template: str, examples: dict[Place, list[str]]) -> Page:
+    """The part about what lines say of the databases, and each definition that its laws rest on. It
     takes the examples of these away."""
     text = read(LAWS)
     laws = [law_of(text, name) for name in OF_LINES]
-    made = Page(definitions, THEOREM_PAGE, examples=examples)
+    made = Page(definitions, template, examples=examples)
     made.blocks.append("\n\n".join(laws))
     silent = {name: ("aide_line_laws", "OverMaps", name) for name in ("IsAccount", "differ_beyond")}
     made.part(" ".join(silent), silent)
@@ -191,10 +185,10 @@ def theorem(definitions: Definitions, examples: dict[Place, list[str]]) -> Page:
     return made
 
 
-def lists(definitions: Definitions, printed: Places) -> Page:
-    """The page of what a list leaves out, with the definitions that are not printed yet."""
+def lists(definitions: Definitions, template: str, printed: Places) -> Page:
+    """The part about what a list leaves out, with the definitions that are not printed yet."""
     text = read(LIST_LAWS)
-    made = Page(definitions, LISTS_PAGE, printed, examples_of(LISTS))
+    made = Page(definitions, template, printed, examples_of(LISTS))
     made.blocks.append("\n\n".join(law_of(text, name) for name in OF_LISTS))
     parts: dict[Place, Places] = {
         LEFT_OUT: [NAMES],
@@ -209,12 +203,13 @@ def lists(definitions: Definitions, printed: Places) -> Page:
     return made
 
 
-def pages() -> dict[str, str]:
-    """The texts of all pages, by their names."""
+def whole() -> str:
+    """The page: its four parts, one after the other."""
     definitions, record = Definitions(crates()), read(RUN_RECORD)
+    of_report, of_theorem, of_lists, of_lines = re.split(r"(?m)^(?=# )", read(TEMPLATE))[1:]
     examples = examples_of(ENTRIES)
-    silent = theorem(definitions, examples)
-    made = Page(definitions, PAGE, examples=examples)
+    silent = theorem(definitions, of_theorem, examples)
+    made = Page(definitions, of_report, examples=examples)
     compare, program = made.contracts((COMPARE, "compare_databases"), (PROGRAM, "run_program"))
     made.part(compare, imports_of(read(COMPARE)))
     made.part(program, imports_of(read(PROGRAM)), PREMISES)
@@ -227,34 +222,17 @@ def pages() -> dict[str, str]:
     )
     made.sections[TYPES] = types_of(made.outside)
     silent.sections[TYPES] = types_of(silent.outside, made.outside)
-    listed = lists(definitions, [*printed, *silent.printed])
+    listed = lists(definitions, of_lists, [*printed, *silent.printed])
     listed.sections[TYPES] = types_of(listed.outside, made.outside + silent.outside)
-    lines = Page(definitions, LINES_PAGE, [*printed, *listed.printed])
+    lines = Page(definitions, of_lines, [*printed, *listed.printed])
     (program,) = lines.contracts((PROGRAM_LINES, "run_lines_program"))
     lines.part(program, imports_of(read(PROGRAM_LINES)), PREMISES + PREMISES_TRUSTED)
     lines.part(JSON[2], {JSON[2]: JSON})
     lines.sections[TYPES] = types_of(lines.outside, made.outside)
     for file, left in ((ENTRIES, examples), (LISTS, listed.examples)):
         if left:
-            sys.exit(f"{file}: no page has {[place[2] for place in left]}")
+            sys.exit(f"{file}: the page has no {[place[2] for place in left]}")
     every = (made, silent, listed, lines)
-    texts = {page.name: page.text() for page in every}
-    check_words([word for page in every for word in page.outside], "\n".join(texts.values()))
-    return texts
-
-
-def main() -> int:
-    parser = parser_of("tools.source.headline_page", __doc__)
-    parser.add_argument("--write", action="store_true", help="write the pages")
-    arguments = parser.parse_args()
-    for name, text in pages().items():
-        if arguments.write:
-            with open(os.path.join(TOP, name), "w", encoding="utf-8") as file:
-                file.write(text)
-        else:
-            sys.stdout.write(text)
-    return 0
-
-
-if __name__ == "__main__":
-    sys.exit(main())
+    text = "".join(page.text() for page in every)
+    check_words([word for page in every for word in page.outside], text)
+    return text

@@ -1,4 +1,4 @@
-"""The tables at the end of docs/HEADLINE.md: what contracts see of devices, and the types of the
+"""The tables of the page of the headlines: what contracts see of devices, and the types of the
 code. The words of the toolchain's library have rows that people write."""
 from __future__ import annotations
 

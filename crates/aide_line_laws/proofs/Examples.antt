@@ -1,4 +1,4 @@
--- Worked examples of what is silent, which docs/HEADLINE_LINES.md prints under the definitions.
+-- Worked examples of what is silent, which tools/headline prints under the definitions.
 use Rattle.std.proofs.Common.{◌≡◌, ◌∙◌, ◌<◌, ◌^◌, ℕ, Bool, true, false, List, [], ◌∷◌, map, Option, Some, None, refl, sym, ap}
 use Rattle.std.proofs.Common.{arith, lit<}
 use Rattle.std.specs.Prelude.{◌+◌, ◌*◌, ◌/◌, ◌%◌, pos, if◌then◌else◌, codes, filter}

@@ -1,4 +1,4 @@
--- Worked examples of what a list leaves out, which docs/HEADLINE_LISTS.md prints under the definitions.
+-- Worked examples of what a list leaves out, which tools/headline prints under the definitions.
 use Rattle.std.proofs.Common.{◌≡◌, ℕ, Bool, true, false, List, [], ◌∷◌, Some, None, Ok, refl, inr}
 use Rattle.std.specs.Prelude.{codes}
 use Rattle.aide_attr.specs.Attr.{attr_of_column, row, row_of}
