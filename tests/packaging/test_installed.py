@@ -169,7 +169,7 @@ class InstalledTest(InstallTest):
         self.assertRegex(self.version, r"\A\d+\.\d+\.\d+\Z")
         self.assertIn(self.version, re.findall(r"^## (\S+)", read("CHANGELOG.md"), re.M))
         wanted = {f"aide-compare-{self.version}-x86_64", f"aide-compare_{self.version}-1_amd64"}
-        for name in ("README.md", "docs/RECIPES.md", "docs/MONITORING.md"):
+        for name in ("README.md", "docs/GUIDE.md"):
             found = re.findall(r"aide-compare[_-]\d[\w.-]*?(?:-x86_64|_amd64)", read(name))
             self.assertLessEqual(set(found), wanted, name)
 

@@ -23,7 +23,7 @@ from typing import NamedTuple
 
 from tests.lib.scratch import TOP, read
 
-RECIPES = ("docs/RECIPES.md", "docs/HOSTS.md", "docs/MONITORING.md")
+RECIPES = ("docs/GUIDE.md", "docs/HOSTS.md")
 MANUALS = sorted(
     os.path.relpath(path, TOP) for path in glob.glob(os.path.join(TOP, "man", "*.[1-8]"))
 )

@@ -49,7 +49,7 @@ wait_for() {
 
 as_nobody() { setpriv --reuid 65534 --regid 65534 --clear-groups "$@"; }
 is_newer() { [ -n "$(find "$1" -newer "$2")" ]; }
-block() { sed -n "/^<!-- try: $1 -->\$/,/^\`\`\`\$/p" "$here/docs/RECIPES.md" "$here/docs/MONITORING.md" | sed '/^<!--/d; /^```/d'; }
+block() { sed -n "/^<!-- try: $1 -->\$/,/^\`\`\`\$/p" "$here/docs/GUIDE.md" | sed '/^<!--/d; /^```/d'; }
 
 make_machine() {
     mount --make-rprivate / && mount -t tmpfs none "$folder" || return 1

@@ -1,4 +1,4 @@
-"""The recipes of docs/MONITORING.md for two databases, and whether each recipe is tried."""
+"""The recipes of docs/GUIDE.md for two databases, and whether each recipe is tried."""
 from __future__ import annotations
 
 import glob

@@ -1,4 +1,4 @@
-"""The recipes of docs/RECIPES.md, HOSTS.md and MONITORING.md over several days: all is quiet, an
+"""The recipes of docs/GUIDE.md and docs/HOSTS.md over several days: all is quiet, an
 intruder comes, every kind of alarm is raised and raised again, a wrong and the right database are
 accepted; then AIDE stops."""
 from __future__ import annotations

@@ -21,10 +21,10 @@ MOST_LINES = {"README.md": 120, proved_page.PROVED: 450}
 # Pages for readers of the crates, which cite definitions.
 OF_READERS = (
     proved_page.PROVED,
-    "docs/ARCHITECTURE.md",
-    "docs/CONTRACTS.md",
+    "docs/dev/ARCHITECTURE.md",
+    "docs/dev/CONTRACTS.md",
     "docs/DECISIONS.md",
-    "docs/LIBRARY.md",
+    "docs/dev/LIBRARY.md",
 )
 # Pages whose blocks tools/headline makes.
 OF_DEFINITIONS = {headline_page.TEMPLATE, proved_page.PROVED}
@@ -162,7 +162,7 @@ class Docs(unittest.TestCase):
             "run_lines": "crates/aide_line_run/src/run.rt",
             "session": "crates/aide_report_session/src/program.rt",
         }
-        page = self.pages["docs/LIBRARY.md"]
+        page = self.pages["docs/dev/LIBRARY.md"]
         parts = re.split(r"\n### What a caller of `(\w+)` may rely on\n", page)
         self.assertEqual(parts[1::2], list(sources))
         for call, part in zip(parts[1::2], parts[2::2]):
@@ -178,14 +178,14 @@ class Docs(unittest.TestCase):
             ("aide_report", "for crate in ", "; do"),
             ("aide_report_session", "A caller of `session` needs ", " too,"),
         ):
-            text = self.pages["docs/LIBRARY.md"].partition(first)[2].partition(last)[0]
+            text = self.pages["docs/dev/LIBRARY.md"].partition(first)[2].partition(last)[0]
             copied.update(re.findall(r"\baide_\w+", text))
             self.assertEqual({crate, *below(crate, libraries())} - copied, set(), crate)
 
     def test_kinds_of_changes_have_texts_that_are_in_files(self) -> None:
-        page = self.pages["docs/CONTRACTS.md"]
+        page = self.pages["docs/dev/CONTRACTS.md"]
         part = page.partition("\n## What a change touches\n")[2].partition("\n## ")[0]
-        others = [read_text(name) for name in self.paths if name != "docs/CONTRACTS.md"]
+        others = [read_text(name) for name in self.paths if name != "docs/dev/CONTRACTS.md"]
         kinds = re.findall(r"^- \*\*([^*]+)\*\*\s+\((`[^)]+`)\)", part, re.M)
         self.assertTrue(kinds)
         for kind, texts in kinds:

@@ -1,4 +1,4 @@
-//! Callers of the library, which `docs/LIBRARY.md` explains: one of `run`, one of `session`, and those that take the
+//! Callers of the library, which `docs/dev/LIBRARY.md` explains: one of `run`, one of `session`, and some for the
 //! promises of a session and of a run one by one.
 mod by_clauses;
 mod by_run;
