@@ -89,7 +89,9 @@ class InstalledTest(InstallTest):
         for name in ("packaging/", "./compare", "in a clone", "make_package"):
             self.assertNotIn(name, text)
         sections = re.findall("(?m)^## (.*)", text)
-        self.assertEqual(sections[:3], ["Why", "Set up", "What it does not do"])
+        self.assertEqual(
+            sections[:3], ["One night, shown twice", "When a change is silent", "Set up"]
+        )
         self.assertIn("\n    aide-compare setup\n", text)
 
     def test_prefix(self) -> None:

@@ -133,15 +133,6 @@ class BlocksTest(PagesTest):
         for page in MANUALS:
             self.try_page(page)
 
-    def test_first_answer(self) -> None:
-        """The lines of README's first block are printed, in this order; it leaves others out."""
-        command, *lines = blocks_of("README.md")[0].text.splitlines()
-        self.assertEqual(command, "$ aide-compare old.db new.db")
-        done = self.shell(f'cd "$EXAMPLES/small_tree" && {command[2:]}')
-        printed = iter([line.rstrip() for line in done.output_text.splitlines()])
-        shown = [line.rstrip() for line in lines if line.strip() != "..."]
-        self.assertEqual([line for line in shown if line not in printed], [], done)
-
     def test_rules_for_alarms(self) -> None:
         """Each metric of the rules is one that is written."""
         blocks = [
