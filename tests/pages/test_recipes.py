@@ -2,7 +2,6 @@
 from __future__ import annotations
 
 import glob
-import json
 import os
 import re
 import shutil
@@ -71,11 +70,6 @@ class HandsTest(RecipesTest):
         self.needs("jq")
         self.assertEqual(self.recipe("lines"), Answer(b"", b"", 0))
         self.assertIn('"standing":"left out"', self.text_at("/tmp/lines"))
-        self.assertEqual(self.recipe("one object"), Answer(b"", b"", 0))
-        one, kinds = json.loads(self.text_at("/tmp/object.json")), ("added", "removed", "changed")
-        counts = {kind: one["number_of_entries"][kind] for kind in kinds}
-        self.assertEqual({kind: len(one[kind]) for kind in kinds}, counts)
-        self.assertEqual({path for kind in kinds for path in one[kind]}, set(one["details"]))
 
     def test_order(self) -> None:
         names = ["/a", "/a/b", "/a%20b", "/a-b", "/a.b", "/%C3%BC"]
