@@ -145,10 +145,10 @@ class TextsTest(MailTest):
         message = self.mail("--attach-page", "old.db", "new.db")
         assert message is not None
         self.assertIn(b'"remarks":["0 of 4 changes', body(message.get_payload()[1]))
-        failing = "heading_of\ndef heading_of(*words): raise KeyError('an odd report')\n"
+        failing = "heading_of\ndef heading_of(*words): raise OSError(28, 'no room')\n"
         self.after_import("show.page", failing)
         text = body(self.mail("--attach-page", "old.db", "new.db"))
-        said = "there is no page: a fault of this command: KeyError: 'an odd report'"
+        said = "there is no page: no room"
         self.assertTrue(words_of(text).endswith(said), text)
 
 

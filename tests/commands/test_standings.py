@@ -172,7 +172,6 @@ class StandingsTest(mail.MailTest):
         host.write(self)
         before = dict(self.replaced)
         for fault, said in (
-            ("KeyError('x')", b"a fault of this command: KeyError"),
             ("MemoryError", b"out of memory"),
             ("OSError(28, 'no room')", b"no room"),
         ):

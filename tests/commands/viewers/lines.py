@@ -9,19 +9,17 @@ from unittest import mock
 
 from tests.lib.programs import lines_program_of
 
-from aide_compare.base.ending import Fault, Status
 from aide_compare.base.files import in_memory
 from aide_compare.base.words import SEVERITIES
 from aide_compare.changes.table import Marks
-from aide_compare.compare.comparison import Lines
-from aide_compare.compare.work import failed_comparison
+from aide_compare.compare.comparison import Comparison, ComparisonInput, Lines
 from aide_compare.lines.reader import ENCODE, NOTHING_COUNTED
 from aide_compare.show.json_lines import added_lines
 from aide_compare.show.page import MAX_PAGE, PageRows, page
 
 Fields = dict[str, Any]
 # A comparison that knows nothing beside its lines.
-NAMELESS = failed_comparison(Fault(Status.DEVICE, "no databases"))
+NAMELESS = Comparison(ComparisonInput(old="", new=""))
 
 
 def proved_lines(program: bytes, configuration: str) -> bytes:

@@ -1,5 +1,5 @@
 """How a command ends: its statuses, its error lines, and never with a status that the interpreter
-chose."""
+chose. A mistake of ours has the file and the line, and by a variable the whole traceback."""
 from __future__ import annotations
 
 import errno
@@ -54,10 +54,17 @@ class Done(Exception):
     """The command has ended before its work, as after --help."""
 
 
+# What may end a part of the work that a command can do without. All else is a mistake of ours.
+EXPECTED = (Fault, MemoryError, OSError)
+# With the value 1 this variable has a traceback printed.
+DEBUG = "AIDE_COMPARE_DEBUG"
+MAX_TRACE = 200  # Lines of it, and characters of each.
+MAX_TRACE_LINE = 1000
 MAX_EMPTY_WRITES = 3
 MAX_WAITING = 1 << 18
 
 _name = "aide-compare"
+_traced: BaseException | None = None  # The last one whose traceback was printed.
 
 
 def write_all(descriptor: int, data: bytes | bytearray | memoryview) -> None:
@@ -155,8 +162,33 @@ def fault_of(error: BaseException) -> Fault:
         return Fault(Status.MEMORY, "out of memory")
     if isinstance(error, OSError):
         return DeviceFault(reason(error))
-    text = guarded(str(error))[:300]
-    return DeviceFault(f"a fault of this command: {type(error).__name__}: {text}")
+    _print_traceback(error)
+    text = f"{type(error).__name__}: {guarded(str(error))[:300]}{_place_of(error)}"
+    return DeviceFault(f"a fault of this command: {text}")
+
+
+def _place_of(error: BaseException) -> str:
+    """The file and the line of the last frame, as in " (show/brief.py:63)"; "" if there is none."""
+    place = ""
+    trace = error.__traceback__
+    while trace is not None:
+        parts = trace.tb_frame.f_code.co_filename.split("/")
+        place = f" ({guarded('/'.join(parts[-2:]))}:{trace.tb_lineno})"
+        trace = trace.tb_next
+    return place
+
+
+def _print_traceback(error: BaseException) -> None:
+    """Writes the frames of a mistake of ours to standard error, once, if a variable asks for it."""
+    global _traced
+    if os.environ.get(DEBUG) != "1" or error is _traced:
+        return
+    _traced = error
+    import traceback
+
+    lines = "".join(traceback.format_exception(type(error), error, error.__traceback__))
+    for line in lines.splitlines()[-MAX_TRACE:]:
+        say(line[:MAX_TRACE_LINE])
 
 
 def why_of(error: BaseException) -> str:

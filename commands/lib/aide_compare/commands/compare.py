@@ -8,7 +8,7 @@ from contextlib import suppress
 from functools import partial
 from typing import TYPE_CHECKING
 
-from aide_compare.base.ending import Fault, ReaderGone, write_blocks
+from aide_compare.base.ending import Fault, ReaderGone, fault_of, write_blocks
 from aide_compare.base.escapes import encoded, shown
 from aide_compare.base.files import blocks_of, nameless, private_place
 from aide_compare.base.program import NOTICE, is_for_looking, need_proof
@@ -35,9 +35,9 @@ from aide_compare.compare.outputs import (
     open_output,
 )
 from aide_compare.compare.report import report_of
-from aide_compare.compare.state import read_state
+from aide_compare.compare.state import failed_state, read_state
 from aide_compare.compare.unpack import Opened
-from aide_compare.compare.work import FAILURES, compare_opened, failed_comparison, open_databases
+from aide_compare.compare.work import compare_opened, open_databases
 from aide_compare.lines.change import Counts
 from aide_compare.mail.message import clean
 from aide_compare.show.notes import no_difference, told_of
@@ -50,31 +50,32 @@ if TYPE_CHECKING:
 
 def keep_failure(path: str | None, error: Exception) -> None:
     """Writes into the state file that a run has failed, as by a fault in the defaults: otherwise
-    the result of an earlier run would look like that of today. If it cannot be written, as on a
-    full disk, it is removed."""
+    the result of an earlier run would look like that of today. If it cannot be made or written, as
+    on a full disk, it is removed."""
     if path is None or is_for_looking():
         return
     with suppress(Fault, OSError):
         if os.path.lexists(path):
             read_state(path)  # What is no state stays, such as a database or a device.
         become_owner(path)
-        text = failed_comparison(error).state().text()
         try:
+            text = failed_state(error).text()
             replace(path, text, ANYBODY_READS, "the state file", makes_directory=False)
-        except Fault:
+        except Exception:
             remove(path)
 
 
 class Row:
     """An output: its place, which is open before anything is compared, and what makes its bytes.
-    These are made before any place gets its own. An output `of_failure` is made if nothing was
-    compared, too: its few bytes are in memory, so that it needs no disk and no descriptor."""
+    These are made before any place gets its own. An output `of_failure` is made anew after a
+    failure: its few bytes are in memory, so that it needs no disk and no descriptor."""
 
     def __init__(self, place: Output, make: Maker, of_failure: bool = False) -> None:
         self.place = place
         self.make = make
         self.of_failure = of_failure
         self.blocks: Iterable[bytes] = ()
+        self.is_put = False  # Its place has bytes, or has refused them.
 
     def write(self, comparison: Comparison, judged: Judged | None) -> None:
         """Makes the bytes."""
@@ -85,6 +86,11 @@ class Row:
             target = nameless()
             write_blocks(target, blocks, f"cannot keep an output in {private_place()}")
             self.blocks = blocks_of(target)
+
+    def put(self) -> None:
+        """Hands the bytes to the place."""
+        self.is_put = True
+        self.place(self.blocks)
 
 
 def output_rows(request: CompareRequest) -> list[Row]:
@@ -116,6 +122,7 @@ class ComparisonJob:
         self.before = before
         self.after = after
         self.rows: Sequence[Row] = ()
+        self.judged: Judged | None = None
 
     def carry_out(self) -> Comparison:
         """Compares, judges, and writes what is wanted. Root opens the databases, and then becomes
@@ -124,13 +131,18 @@ class ComparisonJob:
         opened: Sequence[Opened] = ()
         try:
             opened = open_databases(comparison)
-        except FAILURES as error:
+        except Exception as error:
             comparison.fail(error)
         self._open_outputs(comparison)
         if not comparison.has_failed:
             compare_opened(comparison, opened)
-        self._make(comparison)
-        self._put(comparison)
+        try:
+            if not comparison.has_failed:
+                self._write(comparison)
+        except Exception as error:
+            comparison.fail(error)
+        if comparison.has_failed:
+            self._write_failure(comparison)
         return comparison
 
     def _open_outputs(self, comparison: Comparison) -> None:
@@ -154,43 +166,35 @@ class ComparisonJob:
             rows.append(Row(state_file, state_bytes, of_failure=True))
         self.rows = [*rows, *self.after]
 
-    def _make(self, comparison: Comparison) -> None:
-        """Judges a comparison, and makes all outputs. What fails meanwhile has ended it."""
-        judged = None
-        try:
-            if self.judges and comparison.status == 0:
-                comparison.standings = Counts()
-            elif self.judges and comparison.differs:
-                # The modules for it are more than all others together.
-                from aide_compare.show.judgement import judge
+    def _write(self, comparison: Comparison) -> None:
+        """Judges a comparison, makes all outputs, and then hands them to their places in their
+        order."""
+        if self.judges and comparison.status == 0:
+            comparison.standings = Counts()
+        elif self.judges and comparison.differs:
+            # The modules for it are more than all others together.
+            from aide_compare.show.judgement import judge
 
-                judged = judge(comparison)
-            for row in self.rows:
-                if not (row.of_failure or comparison.has_failed):
-                    row.write(comparison, judged)
-        except FAILURES as error:
-            comparison.fail(error)
+            self.judged = judge(comparison)
+        for row in self.rows:
+            row.write(comparison, self.judged)
+        for row in self.rows:
+            row.put()
+
+    def _write_failure(self, comparison: Comparison) -> None:
+        """Each place of a failure gets the cause, whatever becomes of the others."""
+        failed: Exception | None = None
         for row in self.rows:
             if row.of_failure:
-                row.write(comparison, judged)
-
-    def _put(self, comparison: Comparison) -> None:
-        """Hands the outputs to their places, in their order. If that is not possible, nothing was
-        compared, and each place that still can be written has the cause."""
-        failed = None
-        for row in self.rows:
-            try:
-                if row.of_failure or not comparison.has_failed:
-                    row.place(row.blocks)
-            except FAILURES as error:
-                if not comparison.has_failed:
-                    comparison.fail(error)
-                    self._make(comparison)
-                    return self._put(comparison)
-                failed = failed or error
+                try:
+                    row.write(comparison, self.judged)
+                    row.put()
+                except Exception as error:
+                    failed = failed or error
         if failed:
             keep_failure(self.options.state, failed)
-            raise failed
+            if not comparison.fault or comparison.fault.text != fault_of(failed).text:
+                raise failed
 
 
 # Outputs that programs read. Who reads them does not see that an answer is not proved.
@@ -226,14 +230,16 @@ class Printer:
         self.request = request
         self.form = form_of(request)
         self.is_printed = self.form != NOTHING and not request.is_quiet
+        place = partial(write_blocks, STDOUT, words="cannot write the report")
+        self.printed = Row(place, self._printed)
 
     def job(self) -> ComparisonJob:
         """The comparison that prints so."""
         before = [Row(notes, self._notes)]
-        if self.is_printed:
-            place = partial(write_blocks, STDOUT, words="cannot write the report")
-            before.append(Row(place, self._printed))
         after = [Row(notes, self._failure, of_failure=True)]
+        if self.is_printed:
+            before.append(self.printed)
+            after.append(Row(self.printed.place, self._unjudged, of_failure=True))
         judges = self.form != REPORT or self.request.paths
         return ComparisonJob(self.request, before, after, bool(judges))
 
@@ -263,6 +269,13 @@ class Printer:
             return [brief_of(judged)]
         blocks = blocks_of(report_of(comparison))
         return blocks if self.form == REPORT else map(clean, blocks)
+
+    def _unjudged(self, comparison: Comparison, _judged: Judged | None) -> Iterable[bytes]:
+        """The first paths of the changes, if something has failed before any was printed."""
+        if self.form == BRIEF and comparison.has_failed and not self.printed.is_put:
+            from aide_compare.show.unjudged import unjudged_lines
+
+            yield encoded("".join(f"{line}\n" for line in unjudged_lines(comparison)))
 
     def _notes(self, comparison: Comparison, judged: Judged | None) -> Iterable[bytes]:
         """What is not in a report: it names only the descriptors of the databases."""

@@ -8,9 +8,9 @@ import time
 from collections.abc import Callable, Iterator, Sequence
 from contextlib import closing, suppress
 from functools import partial
-from typing import TYPE_CHECKING
+from typing import TYPE_CHECKING, NamedTuple
 
-from aide_compare.base.ending import Fault, Status, say, why_of, write_all
+from aide_compare.base.ending import EXPECTED, Fault, Status, fault_of, say, why_of, write_all
 from aide_compare.base.escapes import encoded, guarded
 from aide_compare.base.kinds import unit_name
 from aide_compare.base.options import (
@@ -31,9 +31,7 @@ from aide_compare.commands.compare import ComparisonJob, Row, keep_failure
 from aide_compare.commands.compare_request import CompareRequest, checked
 from aide_compare.commands.defaults import comparison_defaults, machines_state
 from aide_compare.compare.comparison import Comparison
-from aide_compare.compare.state import State, read_state
-from aide_compare.compare.work import FAILURES, failed_comparison
-from aide_compare.lines.reader import Reader, Refused, reader_over
+from aide_compare.compare.state import State, failed_state, read_state
 from aide_compare.mail.message import build, clean, host_name, subject_of
 from aide_compare.mail.sending import deliver, send_all, transport_for
 from aide_compare.show.result import result_text
@@ -120,12 +118,25 @@ def message_of(
     comparison: Comparison,
     judged: Judged | None,
 ) -> Iterator[bytes]:
+    """The mail of a comparison. If a mistake of ours keeps it from being made, the comparison has
+    failed, and the mail says only that."""
+    try:
+        yield from whole_message(request, before, comparison, judged)
+    except Exception as error:
+        if not comparison.has_failed:
+            raise
+        yield failure_message(request, comparison.fault or fault_of(error))
+
+
+def whole_message(
+    request: MailRequest,
+    before: Sequence[str] | None,
+    comparison: Comparison,
+    judged: Judged | None,
+) -> Iterator[bytes]:
     """The mail of a comparison; nothing if it is no alarm. A column that is not compared is one,
     unless the last run has not compared it either, or no state is kept."""
     state = comparison.state()
-    if comparison.status == Status.USAGE:  # Who has typed it sees it at once.
-        with suppress(OSError):
-            write_all(2, encoded(told_of(comparison)))
     columns: list[str] = []
     if before is not None:
         columns = [name for name in state.skipped if name not in before]
@@ -141,6 +152,19 @@ def message_of(
     yield build(request.address, subject, text, page)
 
 
+def failure_notes(request: MailRequest, fault: Fault) -> list[str]:
+    """The lines of a mail that knows nothing of a comparison."""
+    notes = [f"aide-compare: {guarded(text)}" for text in (fault.text, *fault.more)]
+    return notes + [f"{HELP.name}: {note}" for note in request.notes]
+
+
+def failure_message(request: MailRequest, fault: Fault) -> bytes:
+    from aide_compare.mail.columns import note_lines
+
+    lines = note_lines(failure_notes(request, fault))
+    return short_mail(request, f"failure (status {fault.status})", "\n".join((*lines, "")))
+
+
 def notes_of(request: MailRequest, comparison: Comparison) -> list[str]:
     """The lines beside the changes: what was not compared, what the program says, and what is wrong
     with the defaults."""
@@ -150,29 +174,24 @@ def notes_of(request: MailRequest, comparison: Comparison) -> list[str]:
 
 
 def lines_of_mail(comparison: Comparison, judged: Judged | None, notes: Sequence[str]) -> list[str]:
-    """The lines of the text."""
+    """The lines of the text. After a failure they have what is known of the changes all the
+    same."""
     from aide_compare.mail.columns import note_lines
     from aide_compare.mail.text import MAX_LINES, Mail, text_of_changes, text_of_unjudged
 
-    if comparison.has_failed:
-        return note_lines(notes, MAX_LINES)
     warnings = [guarded(warning) for warning in comparison.warnings]
-    if not comparison.differs:
-        return [*note_lines(warnings), *note_lines(notes)]
     mail = Mail(comparison.state(), warnings, notes)
-    if judged is None:
-        lines = comparison.known_lines()
-        changes = whole_changes(reader_over(lines.fd))
-        return text_of_unjudged(mail, lines.end.kinds, changes)
-    return text_of_changes(mail, judged)
-
-
-def whole_changes(reader: Reader) -> Iterator[tuple[str, bytes]]:
-    """The kinds and paths of changes, as far as these are there: lines that were cut have no
-    end."""
-    with suppress(Refused):
-        for form, path, _, _ in reader.outlines():
-            yield form.kind, path
+    if not (comparison.lines and comparison.lines.end.changes):
+        if comparison.has_failed:
+            return note_lines(notes, MAX_LINES)
+        return [*note_lines(warnings), *note_lines(notes)]
+    if judged is not None:
+        try:
+            return text_of_changes(mail, judged)
+        except Exception:
+            if not comparison.has_failed:
+                raise  # The comparison fails by it, and then there is this mail once more.
+    return text_of_unjudged(mail, comparison)
 
 
 def page_of(comparison: Comparison, judged: Judged | None, notes: list[str]) -> bytes | None:
@@ -183,7 +202,7 @@ def page_of(comparison: Comparison, judged: Judged | None, notes: list[str]) -> 
             from aide_compare.show.page import page_of as parts_of
 
             return b"".join(parts_of(comparison, judged, MAX_PAGE))
-        except Exception as error:
+        except EXPECTED as error:
             why = why_of(error)
     notes.append(f"{HELP.name}: there is no page: {why}")
     return None
@@ -213,25 +232,36 @@ def send_heartbeat(path: str, day: str, send: Callable[[], object]) -> None:
             file.commit(())
 
 
-def compared(request: MailRequest) -> tuple[State, bytes, list[str]]:
-    """Compares, and puts the mail together, and what a heartbeat says beside the result."""
-    before = columns_before(request)
+class Compared(NamedTuple):
+    """A comparison that has ended, and what is mailed of it."""
+
+    state: State
+    news: str  # What a log says that no mail could say.
+    message: bytes  # Nothing if there is nothing to read.
+    notes: Sequence[str] = ()
+
+
+def compared(request: MailRequest) -> Compared:
+    """Compares, and puts the mail together."""
     mail: list[bytes] = []
     try:
+        before = columns_before(request)
         if request.fault:
             raise request.fault
         row = Row(mail.extend, partial(message_of, request, before), of_failure=True)
         ended = ComparisonJob(request, after=[row]).carry_out()
-        return ended.state(), b"".join(mail), notes_of(request, ended)
-    except FAILURES as error:
+        state = ended.state()
+        news = subject_of(state) if state.status else "no difference"
+        return Compared(state, news, b"".join(mail), notes_of(request, ended))
+    except Exception as error:
         keep_failure(request.state, error)
-        comparison = failed_comparison(error)
-        message = b"".join(mail)
-        if message:  # About the first cause.
+        state = failed_state(error)
+        news = f"aide on {host_name()}: failure (status {state.status})"
+        if mail:  # About the first cause.
             say(why_of(error))
-        else:
-            message = b"".join(message_of(request, before, comparison, None))
-        return comparison.state(), message, []
+            return Compared(state, news, b"".join(mail))
+        fault = fault_of(error)
+        return Compared(state, news, failure_message(request, fault), failure_notes(request, fault))
 
 
 def columns_before(request: MailRequest) -> Sequence[str] | None:
@@ -244,8 +274,10 @@ def columns_before(request: MailRequest) -> Sequence[str] | None:
 
 
 def compare_and_mail(request: MailRequest) -> int:
-    state, message, notes = compared(request)
-    news = subject_of(state) if state.status else "no difference"
+    state, news, message, notes = compared(request)
+    if state.status == Status.USAGE:  # Who has typed it sees it at once.
+        with suppress(OSError):
+            write_all(2, encoded("".join(f"{note}\n" for note in notes)))
     try:
         way = transport_for(news, request.seconds, request.queue)
     except Fault as fault:

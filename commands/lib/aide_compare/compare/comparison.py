@@ -13,7 +13,7 @@ from aide_compare.base.program import Answer
 from aide_compare.base.words import KINDS, SIDES
 from aide_compare.compare.configuration import NONE, ConfigurationTexts
 from aide_compare.compare.line_room import NO_OTHERS, Others
-from aide_compare.compare.state import State
+from aide_compare.compare.state import MAX_ERROR, State
 from aide_compare.compare.unpack import Copy
 from aide_compare.lines.change import Counts
 from aide_compare.lines.reader import EndCounts, Reader, reader_over
@@ -21,7 +21,6 @@ from aide_compare.lines.reader import EndCounts, Reader, reader_over
 if TYPE_CHECKING:
     from aide_compare.compare.exclusions import Exclusions
 
-MAX_ERROR = 5000
 MAX_NAME = 4000
 
 NO_COPIES: Mapping[str, Copy] = MappingProxyType({})

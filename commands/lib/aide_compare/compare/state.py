@@ -7,7 +7,7 @@ import re
 import time
 from typing import Any, NamedTuple
 
-from aide_compare.base.ending import DeviceFault
+from aide_compare.base.ending import DeviceFault, fault_of
 from aide_compare.base.escapes import guarded, shown
 from aide_compare.base.files import read_file
 from aide_compare.base.words import date_of, status_of_counts
@@ -16,6 +16,7 @@ from aide_compare.lines.change import Counts
 STATE_FORMAT = 3
 MAX_STATE_BYTES = 65536
 MAX_NAMES = 3
+MAX_ERROR = 5000
 # The state of the daily run, and how much the clocks of two machines that share a file may differ.
 DAILY = "/var/lib/aide-compare/daily/state"
 AHEAD = 300
@@ -101,6 +102,12 @@ class State(NamedTuple):
         if self.standings and not self.standings.fits(sum(self.counts)):
             return "counts of standings that are not those of the changes"
         return ""
+
+
+def failed_state(error: BaseException) -> State:
+    """The State of a run that has ended before any comparison was known."""
+    fault = fault_of(error)
+    return State(fault.status, int(time.time()), error=f"aide-compare: {fault.text}"[:MAX_ERROR])
 
 
 def not_compared(names: list[str]) -> str:

@@ -24,8 +24,6 @@ from aide_compare.lines.reader import ODD, end_of
 
 MAX_CLOCKS_DIFFER = 600
 MIN_LINES = 1 << 12
-# What ends a comparison.
-FAILURES = (Fault, MemoryError, OSError)
 
 
 def open_databases(comparison: Comparison) -> Sequence[Opened]:
@@ -59,7 +57,7 @@ def compare_opened(comparison: Comparison, opened: Sequence[Opened]) -> None:
             comparison.notes += ignored_notes(settings_of(comparison.texts))
         comparison.lines = lines
         comparison.time = int(time.time())
-    except FAILURES as error:
+    except Exception as error:
         comparison.fail(error)
 
 
@@ -125,15 +123,8 @@ def compare(request: ComparisonInput) -> Comparison:
     comparison = Comparison(request)
     try:
         compare_opened(comparison, open_databases(comparison))
-    except FAILURES as error:
+    except Exception as error:
         comparison.fail(error)
-    return comparison
-
-
-def failed_comparison(error: BaseException) -> Comparison:
-    """The comparison of a run that an exception has ended before it could begin."""
-    comparison = Comparison(ComparisonInput(old="", new=""))
-    comparison.fail(error)
     return comparison
 
 

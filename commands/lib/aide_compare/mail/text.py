@@ -5,22 +5,19 @@ It is what people read first of a comparison, with less room, and then two comma
 from __future__ import annotations
 
 import os
-from collections import Counter
-from collections.abc import Iterable, Sequence
-from textwrap import wrap
+from collections.abc import Sequence
 from typing import NamedTuple
 
 from aide_compare.base.files import is_name
-from aide_compare.base.words import KINDS
 from aide_compare.changes.judged import Judged
+from aide_compare.compare.comparison import Comparison
 from aide_compare.compare.state import State
-from aide_compare.mail.columns import WIDTH, command_lines, note_lines
+from aide_compare.mail.columns import command_lines, note_lines
 from aide_compare.show.brief import brief
-from aide_compare.show.digest import MAIL, shortened_path
+from aide_compare.show.digest import MAIL
+from aide_compare.show.unjudged import unjudged_lines
 
 MAX_LINES = 80
-# Of changes that nobody has judged, so many paths of one directory.
-DIRECTORY_SHARE = 5
 
 
 def accept_lines(state: State) -> list[str]:
@@ -67,31 +64,8 @@ def end_lines(mail: Mail) -> list[str]:
     return lines + notes
 
 
-def first_paths(changes: Iterable[tuple[str, bytes]]) -> list[str]:
-    """The first paths of changes that nobody has judged, by their kinds and paths, those that were
-    removed or changed first, and of each directory a few."""
-    listed: Counter[tuple[str, bytes]] = Counter()
-    lines: dict[str, list[str]] = {"changed": [], "removed": [], "added": []}
-    for kind, path in changes:
-        place = (kind, path.rpartition(b"/")[0])
-        if len(lines[kind]) < MAX_LINES and listed[place] < DIRECTORY_SHARE:
-            listed[place] += 1
-            line = f"  {kind:<7}  "
-            lines[kind].append(line + shortened_path(path, WIDTH - len(line)))
-    return [line for each in lines.values() for line in each]
-
-
-def text_of_unjudged(
-    mail: Mail, counts: Sequence[int], changes: Iterable[tuple[str, bytes]]
-) -> list[str]:
-    """The lines of a mail about changes that nobody has judged: how many there are, and the first
-    paths."""
-    numbers = ", ".join(f"{count} {kind}" for count, kind in zip(counts, KINDS))
-    title = f"The databases differ: {numbers}."
-    title += " The severity is not known, because the changes could not be judged."
-    head = [*wrap(title, WIDTH), *note_lines(mail.warnings), ""]
-    end = end_lines(mail)
-    lines = first_paths(changes)[: MAX_LINES - len(head) - len(end) - 2]
-    if sum(counts) > len(lines):
-        lines.append(f"  and {sum(counts) - len(lines)} more")
-    return [*head, *lines, "", *end]
+def text_of_unjudged(mail: Mail, comparison: Comparison) -> list[str]:
+    """The lines of a mail about changes that nobody has judged."""
+    head = note_lines(mail.warnings)
+    end = ["", *end_lines(mail)]
+    return [*head, *unjudged_lines(comparison, MAX_LINES - len(head) - len(end)), *end]

@@ -1,7 +1,7 @@
 """The changes of a comparison, judged."""
 from __future__ import annotations
 
-from aide_compare.base.ending import why_of
+from aide_compare.base.ending import EXPECTED, why_of
 from aide_compare.base.words import TRUSTED_SIDES
 from aide_compare.changes.judged import Judged, named_packages
 from aide_compare.changes.recorded import records_of_host
@@ -10,15 +10,15 @@ from aide_compare.lines.reader import reader_over
 
 
 def judge(comparison: Comparison) -> Judged | None:
-    """The changes of a comparison, which gets their standings. If they cannot be judged, a doubt
-    says why, and without standings every change is an alarm."""
+    """The changes of a comparison, which gets their standings. If something keeps them from being
+    judged, a doubt says why, and without standings every change is an alarm."""
     try:
         lines = comparison.whole_lines()
         judged = Judged(reader_over(lines.fd), lines.others)
         comparison.doubts += judged.doubts()
         group(comparison, judged)
         comparison.standings = judged.counts
-    except Exception as error:  # A fault here must not cost the alarm.
+    except EXPECTED as error:
         comparison.doubts.append(f"the changes are not judged: {why_of(error)}")
         return None
     comparison.left_out = judged.left_out
