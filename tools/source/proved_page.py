@@ -18,7 +18,7 @@ from tools.source.headline_page import (
     law_of,
 )
 from tools.source.headline_tables import types_of
-from tools.source.worked_examples import ENTRIES, examples_of, things_of
+from tools.source.worked_examples import ENTRIES, examples_of
 
 PROVED = "docs/PROVED.md"
 RECORD = "crates/aide_line_run/specs/LinesRun.antt"
@@ -26,8 +26,6 @@ NAMES = "Names that this page does not print"
 THEOREM = "a_trusted_run_says_all"
 # What the theorem says of lines: printed without what it uses.
 SAID = [("aide_line_laws", "OverMaps", "SayAll")]
-# Entries of examples that are about other definitions.
-NOT_SHOWN = ("two_entries", "but_for_times")
 SILENT = ("aide_line_laws", "OverMaps", "IsAccount")
 # What decides is printed of these crates, and of others only these names.
 DECIDES = ("aide_line_laws", "aide_agreement")
@@ -76,7 +74,6 @@ def proved() -> str:
     page.blocks.append("\n".join(page.shown(SAID))[1:])
     decide, stops = silent(definitions)
     page.blocks.append("\n".join(page.shown(decide))[1:])
-    page.blocks.append("\n".join(things_of(ENTRIES, NOT_SHOWN)))
     printed = [*SAID, *decide]
     inside, outside = used_by(definitions, printed)
     there: list[Place] = [place for place in [*named, *inside] if definitions.has(place)]

@@ -4,7 +4,6 @@ from __future__ import annotations
 
 import re
 import sys
-from collections.abc import Sequence
 
 from tests.lib.scratch import read
 from tools.source.definition_lines import shown, wrapped
@@ -32,12 +31,11 @@ def examples_of(file: str) -> dict[Place, list[str]]:
     return found
 
 
-def things_of(file: str, left: Sequence[str] = ()) -> list[str]:
+def things_of(file: str) -> list[str]:
     """Lines with the entries and lists that the examples of a file are about: its public
-    definitions that have a sentence and are no examples, without those that are left out."""
+    definitions that have a sentence and are no examples."""
     lines: list[str] = []
     for name, definition in File(read(f"{FOLDER}/{file}")).definitions.items():
-        is_thing = definition.sentence and "pub " in definition.lines[0] and "_example" not in name
-        if is_thing and name not in left:
+        if definition.sentence and "pub " in definition.lines[0] and "_example" not in name:
             lines += shown(definition)
     return lines
