@@ -17,7 +17,7 @@ from tools.source.definitions import Definitions, crates
 
 # The crates whose calls are steps of other crates.
 INSIDES = ("aide_merge", "aide_site")
-MOST_LINES = {"README.md": 112, proved_page.PROVED: 450}
+MOST_LINES = {"README.md": 110, proved_page.PROVED: 450}
 # Pages for readers of the crates, which cite definitions.
 OF_READERS = (
     proved_page.PROVED,
