@@ -9,9 +9,13 @@ from .sandbox import CommandTest, DIFFER, NEW, OLD, sha256
 
 TOOL = "aide-compare"
 SUBCOMMANDS = "compare show json page mail accept archive status sort setup version".split()
-HOSTS = "add compare accept report".split()
+HOSTS = "add list remove compare accept report".split()
 EVERY = SUBCOMMANDS + ["hosts " + word for word in HOSTS]
-COMMON = [b"\n  -q, --quiet ", b"\n  -v, --verbose ", b"\n  --version ", b"\n\nStatus"]
+QUIET = b"\n  -q, --quiet "
+VERBOSE = b"\n  -v, --verbose "
+# What has nothing to leave out, and what can name the lines of a list.
+NEVER_QUIET = ("mail", "version", "hosts list")
+COMPARISONS = ("compare", "show", "json", "page")
 UNKNOWN_BUILD = b"a proved build: not known: "
 # A program in place of the proved one: it tells its arguments, and which signals it ignores.
 TELLS = 'printf "%s\\n" "$@"; grep SigIgn /proc/self/status; exit 5'
@@ -51,13 +55,14 @@ class FrontTest(CommandTest):
         for words in (["-h"], ["help"], ["help", "--help"]):
             self.answered(0, text, b"", TOOL, *words)
         for word in EVERY:
-            is_short = word in ("compare", "json", "page")
-            usage = b"[compare | json | page] " if is_short else word.encode() + b" "
-            parts = [b"usage: aide-compare " + usage, *COMMON]
+            usage = b"[compare] " if word == "compare" else word.encode() + b" "
             printed = helped(*word.split(), "--help")
-            for part in parts:
-                self.assertIn(part, printed)
+            for part in (b"usage: aide-compare " + usage, b"\n\nStatus"):
+                self.assertIn(part, printed, word)
             self.assertIn(b" [OPTIONS]", printed.splitlines()[0])
+            self.assertEqual(QUIET in printed, word not in NEVER_QUIET, word)
+            self.assertEqual(VERBOSE in printed, word in COMPARISONS, word)
+            self.assertNotIn(b"--version", printed, word)
             self.assertLessEqual(max(map(len, printed.decode().splitlines())), 80, word)
         for words in (["sort"], ["hosts", "add"]):
             self.answered(0, helped(*words, "--help"), b"", TOOL, "help", *words)
@@ -176,7 +181,9 @@ class FrontTest(CommandTest):
             for words in (["version"], ["help"], ["json", "--help"]):
                 self.answered(18, None, told, TOOL, *words, stdout=full)
         for word in ("json", "show", "hosts add"):
-            self.assertEqual(helped(*word.split(), "--version"), output.splitlines(True)[0])
+            self.refused(15, None, f"{TOOL} {word}", "--version")
+        version = output.splitlines(True)[0]
+        self.answered(3, version, b"", "check_aide_compare", "--version")
         self.refused(15, b"aide-compare version: ", TOOL, "version", "x")
         os.remove(self.lines_program)
         told = b"cannot find " + self.lines_program.encode()

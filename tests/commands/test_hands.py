@@ -78,6 +78,19 @@ class HandsTest(CommandTest):
         self.assertIn(b"by /usr/lib/* (own, line 1)", answer.errors)
         self.assertNotIn(b"/srv/*", answer.errors, "another file in place of the usual one")
 
+    def test_read_once(self) -> None:
+        """A run opens and parses the defaults once: what it obeys is what it looks up."""
+        self.prepare("--to a@b.example\n")
+        counted = "trusted_text\nreading = trusted_text\ndef trusted_text(path, *words):\n"
+        counted += (
+            "    open('read', 'a').write(path[-8:] + ' ')\n    return reading(path, *words)\n"
+        )
+        self.after_import("base.parser", counted)
+        for tool in (TOOL, "aide-compare json", "aide-compare mail"):
+            self.call(tool, *NIGHT)
+            self.assertEqual(self.read("read"), b"defaults ", tool)
+            os.remove(self.path("read"))
+
     def test_command_of_mail(self) -> None:
         """The command that a mail prints makes the page of the same changes. It leaves no state."""
         self.prepare("--to a@b.example\n")

@@ -43,7 +43,8 @@ class ShowTest(CommandTest):
         wanted = [b"open medium removed Directory: /b", b"open medium changed File: /c"]
         self.assertEqual(heads, wanted)
         self.refused(15, b"--only", "aide-compare", "--only", "c", "old.db", "new.db")
-        self.refused(15, b"--only is given twice", TOOL, "/b", "--only", "/c", "old.db", "new.db")
+        twice = ("--only", "/b", "--only", "/c")
+        self.refused(15, b"--only is given twice", "aide-compare", *twice, *PAIR)
 
     def test_values(self) -> None:
         """What changed, as people read it; what did not is left out."""
@@ -98,8 +99,13 @@ class ShowTest(CommandTest):
     def test_refused(self) -> None:
         for words, said in (
             (["c", *PAIR], "a path begins with /"),
-            (["-q", "/c", *PAIR], "PATH comes first"),
+            (["--only", "/c", "/c", *PAIR], "unrecognized arguments: --only"),
+            (["--report", "/c", *PAIR], "unrecognized arguments: --report"),
         ):
             status, text = misused(self, TOOL, *words)
             self.assertEqual((status, said in text), (15, True), (words, text))
-        self.refused(15, b"PATH comes first", TOOL)
+        self.refused(15, b"required: PATH", TOOL)
+        for words in (["-q", "/c"], ["/c", "-q"], ["--", "/c"]):
+            answer = self.answered(7, None, None, TOOL, *words, *PAIR)
+            self.assertEqual(answer.output == b"", "-q" in words, words)
+        self.answered(7, b"changed File: /c", None, TOOL, "--no-defaults", "/c", *PAIR)

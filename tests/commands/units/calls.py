@@ -25,7 +25,6 @@ def outcome(work: Callable[..., Any], *given: Any, **more: Any) -> Any:
 
 def misused(scratch: ScratchTest, tool: str, *words: str) -> Any:
     """The status and the text of words that a command refuses before it does anything."""
-    parser.defaults_file.cache_clear()
     with mock.patch.object(parser, "DIRECTORY", scratch.path("etc")):
         return outcome(front.main, [*tool.split(" ")[1:], *words])
 

@@ -1,16 +1,21 @@
 """What the options of a mail ask for: its own, the comparison's, and the defaults before them."""
 from __future__ import annotations
 
+from collections.abc import Sequence
 from typing import Any
 from unittest import mock
 
 from tests.commands.units.calls import ModuleTest
 
 from aide_compare.base import parser
-from aide_compare.base.options import COMPARISON_DEFAULTS, MAIL_DEFAULTS
-from aide_compare.base.parser import defaults_for
+from aide_compare.base.options import COMPARISON_DEFAULTS, MAIL_DEFAULTS, Option
+from aide_compare.base.parser import Values, read_defaults
 from aide_compare.commands.compare_request import CompareRequest
-from aide_compare.commands.mail import MailRequest, request_of
+from aide_compare.commands.mail import MailJob, MailRequest, job_of
+
+
+def values_of(options: Sequence[Option]) -> Values:
+    return read_defaults(()).values(options)
 
 
 class MailRequestTest(ModuleTest):
@@ -19,23 +24,21 @@ class MailRequestTest(ModuleTest):
         place = mock.patch.object(parser, "DIRECTORY", self.root)
         place.start()
         self.addCleanup(place.stop)
-        self.addCleanup(parser.defaults_file.cache_clear)
-        parser.defaults_file.cache_clear()
 
     def write_defaults(self, text: bytes) -> None:
-        """Writes them as they are for the next run: each reads them once."""
+        """Writes them as they are."""
         self.write("defaults", text)
-        parser.defaults_file.cache_clear()
 
-    def asks(self, words: str, **wanted: Any) -> MailRequest:
+    def asks(self, words: str, notes: Sequence[str] = (), **wanted: Any) -> MailRequest:
         """What some words ask for. Of a mail they ask for nothing else that no words ask for."""
-        request = request_of(words.split())
-        usual = request_of(["x", "y"])
-        own = (MailRequest.rows().keys() - CompareRequest.rows().keys()) | {"notes"}
+        job = job_of(words.split())
+        usual = job_of(["x", "y"]).request
+        own = MailRequest.rows().keys() - CompareRequest.rows().keys()
         for name in own | wanted.keys():
             value = wanted.get(name, vars(usual)[name])
-            self.assertEqual(vars(request)[name], value, (words, name))
-        return request
+            self.assertEqual(vars(job.request)[name], value, (words, name))
+        self.assertEqual(list(job.notes), list(notes), words)
+        return job.request
 
     def test_refused(self) -> None:
         """What means nothing without another word, or with it."""
@@ -53,7 +56,7 @@ class MailRequestTest(ModuleTest):
             ("o n --max-age x", "--max-age"),
             ("o", "name both databases"),
         ):
-            self.fails(15, why, request_of, words.split())
+            self.fails(15, why, job_of, words.split())
 
     def test_defaults(self) -> None:
         """The defaults come first. A fault in them costs no mail, and the mail says it."""
@@ -65,9 +68,9 @@ class MailRequestTest(ModuleTest):
         self.asks("--state=s", state="s", **usual)
         for line, why in (("--to -x", "address"), ("--odd", "defaults, line 1: ")):
             self.write_defaults(line.encode())
-            request = request_of(["o", "n"])
-            self.assertEqual(request.address, "root")
-            self.assertIn(why, request.fault.text if request.fault else "")
+            job: MailJob = job_of(["o", "n"])
+            self.assertEqual(job.request.address, "root")
+            self.assertIn(why, job.fault.text if job.fault else "")
 
     def test_machine(self) -> None:
         """Databases and state of this machine are the defaults' ones; a list has what both say."""
@@ -93,4 +96,4 @@ class MailRequestTest(ModuleTest):
             self.write_defaults(b"# x\n\n--max-size 1G\n%s\n" % line.encode())
             options = (*COMPARISON_DEFAULTS, *MAIL_DEFAULTS)
             with self.subTest(line):
-                self.fails(15, "defaults, line 4: ", defaults_for, options, ())
+                self.fails(15, "defaults, line 4: ", values_of, options)

@@ -5,8 +5,8 @@ fields are rows: base/parser.py makes the parser and the help, packaging/complet
 """
 from __future__ import annotations
 
-from collections.abc import Callable, Sequence
-from typing import Any, NamedTuple, TypeVar
+from collections.abc import Callable, Mapping, Sequence
+from typing import Any, NamedTuple
 
 from aide_compare.base.kinds import (
     address,
@@ -61,6 +61,7 @@ class Operand(NamedTuple):
     help: str
     nargs: str | None = None
     default: object = None
+    kind: Callable[[str], object] = some_text
 
 
 def field(row: Option | Operand, **changes: Any) -> Any:
@@ -76,29 +77,23 @@ def option(name: str, help: str, metavar: str = "", **more: Any) -> Any:
 
 QUIET = Option("--quiet", "print less, if there is less to print", letter="-q")
 VERBOSE = Option(
-    "--verbose",
-    "of compare, show, json and page: print also how many changes each line of a list leaves out",
-    letter="-v",
+    "--verbose", "print also how many changes each line of a list leaves out", letter="-v"
 )
-Asks = TypeVar("Asks", bound="Asked")
 
 
 class Asked:
-    """What a command line asks for. The rows of a subclass are its options and operands."""
+    """What a command line asks for. The rows of a subclass are its options and operands, and its
+    instances have a value of each, and nothing else."""
 
-    is_quiet: bool = field(QUIET)
-    is_verbose: bool = field(VERBOSE)
-
-    def __init__(self, **values: object) -> None:
+    def __init__(self, values: Mapping[str, object]) -> None:
+        unlike = values.keys() ^ self.rows().keys()
+        if unlike:
+            raise TypeError(f"not as the rows of {type(self).__name__}: {sorted(unlike)}")
         vars(self).update(values)
-
-    def but(self: Asks, **values: object) -> Asks:
-        """The same with other values."""
-        return type(self)(**{**vars(self), **values})
 
     @classmethod
     def rows(cls) -> dict[str, Option | Operand]:
-        """The rows by the names of their fields, those of all commands first."""
+        """The rows by the names of their fields, those of its parents first."""
         rows: dict[str, Option | Operand] = {}
         for each in reversed(cls.__mro__):
             for name, row in vars(each).items():
@@ -238,7 +233,7 @@ HOSTS_OPTION = Option(
 
 
 class HostsAsked(Asked):
-    """What the options of all commands over hosts ask for."""
+    """What all commands over hosts are asked for."""
 
     store: str = option("--store", f"where the databases are kept ({STORE})", "DIR", default=STORE)
     seconds: int = field(HOST_TIME)

@@ -12,30 +12,26 @@ import os
 import re
 from collections.abc import Iterable, Mapping, Sequence
 from contextlib import suppress
-from functools import lru_cache
-from typing import Any, NamedTuple, NoReturn
+from functools import partial
+from typing import Any, NamedTuple, NoReturn, TypeVar
 
-from aide_compare import VERSION
 from aide_compare.base.ending import Done, Fault, OSErrorAsFault, Status, tell, usage_fault
 from aide_compare.base.escapes import shown
 from aide_compare.base.files import lines_of, trusted_text
-from aide_compare.base.kinds import some_text
 from aide_compare.base.options import (
     CHECK_DEFAULTS,
     COMPARISON_DEFAULTS,
     MAIL_DEFAULTS,
     NO_DEFAULTS,
     Asked,
-    Asks,
     Operand,
     Option,
 )
 
-# What the lines of the defaults give, by the names that the options have once they are parsed.
-Defaults = dict[str, Any]
-
-# What a command line gives, by the fields of a request.
-Given = dict[str, Any]
+# What a command line gives, by the fields of a request, or the lines of the defaults, by the names
+# that the options have once they are parsed.
+Values = dict[str, Any]
+Asks = TypeVar("Asks", bound=Asked)
 
 OPERAND = "\0"  # Before a word that follows --. No argument has this byte.
 DIRECTORY = "/etc/aide-compare"
@@ -102,11 +98,11 @@ def words_of_option(option: Option, name: str) -> dict[str, Any]:
 
 
 def words_of_operand(operand: Operand) -> dict[str, Any]:
-    """What argparse is told of an operand, a text that is not empty."""
+    """What argparse is told of an operand."""
     return {
         "metavar": operand.metavar,
         "help": operand.help,
-        "type": _operand,
+        "type": partial(_operand, operand),
         "nargs": operand.nargs,
         "default": None,
     }
@@ -139,12 +135,6 @@ class Parser(argparse.ArgumentParser):
             argument_default=argparse.SUPPRESS,
             formatter_class=Formatter,
         )
-        self.add_argument(
-            "--version",
-            action="version",
-            version=f"aide-compare {VERSION}",
-            help="print the version and stop",
-        )
         self.add_rows(asked.rows())
 
     def add_rows(self, rows: Mapping[str, Option | Operand]) -> None:
@@ -156,7 +146,7 @@ class Parser(argparse.ArgumentParser):
             names = [each for each in (row.letter, row.name) if each]
             self.add_argument(*names, **words_of_option(row, field))
 
-    def parse(self, arguments: Sequence[str]) -> Given:
+    def parse(self, arguments: Sequence[str]) -> Values:
         """What the arguments give; options and operands may stand in any order, and after -- there
         are operands only."""
         cut = end_of_options(arguments)
@@ -167,23 +157,23 @@ class Parser(argparse.ArgumentParser):
         tell(message.rstrip())
 
     def exit(self, status: int = 0, message: str | None = None) -> NoReturn:
-        raise Done  # After --help and --version; faults are in `error`.
+        raise Done  # After --help; faults are in `error`.
 
     def error(self, message: str) -> NoReturn:
         raise usage_fault(message.replace(OPERAND, ""))
 
 
 def read(
-    asked: type[Asks], words: Sequence[str], help: Help, defaults: Defaults | None = None
+    asked: type[Asks], words: Sequence[str], help: Help, defaults: Values | None = None
 ) -> Asks:
     """What the words of a command line ask for, and the defaults where they say nothing."""
     return filled(asked, Parser(asked, help).parse(words), defaults or {})
 
 
-def filled(asked: type[Asks], given: Given, defaults: Defaults) -> Asks:
+def filled(asked: type[Asks], given: Values, defaults: Values) -> Asks:
     """What a command line asks for that gives these values, and the defaults where it gives none. A
     list has those of both."""
-    values: Given = {}
+    values: Values = {}
     for field, row in asked.rows().items():
         if isinstance(row, Operand):
             values[field] = given[field] or defaults.get(field, row.default)
@@ -191,11 +181,11 @@ def filled(asked: type[Asks], given: Given, defaults: Defaults) -> Asks:
             values[field] = [*defaults.get(row.attribute, ()), *given.get(field, ())]
         else:
             values[field] = given.get(field, defaults.get(row.attribute, row.usual))
-    return asked(**values)
+    return asked(values)
 
 
-def _operand(text: str) -> str:
-    return some_text(text.removeprefix(OPERAND))
+def _operand(operand: Operand, text: str) -> object:
+    return operand.kind(text.removeprefix(OPERAND))
 
 
 def administrators_file(name: str) -> str | None:
@@ -208,43 +198,62 @@ def administrators_file(name: str) -> str | None:
     return None
 
 
-@lru_cache(maxsize=1)
-def defaults_file() -> tuple[str, bytes] | None:
-    """The path and the text of the defaults; None if there are none. A run reads them once: what it
-    obeys is what it looks up."""
-    path = administrators_file("defaults")
-    return (path, trusted_text(path, DEFAULTS)) if path else None
+class DefaultLine(NamedTuple):
+    """A line of the defaults: its option, None if it has none, with its value or its fault."""
+
+    option: Option | None
+    value: Any
+    fault: Fault | None
 
 
-def defaults_for(
-    options: Iterable[Option], words: Sequence[str], passes_faults: bool = False
-) -> Defaults:
-    """What the lines of the defaults give these options; nothing if the words of the command line
-    need no defaults. Lines with a fault can be passed over."""
-    rows = {option.attribute: option for option in options}
-    before = set(words[: end_of_options(words)])
-    if before & {NO_DEFAULTS.name, "--help", "-h", "--version"}:
-        return {}
-    file = defaults_file()
-    if file is None:
-        return {}
-    defaults: Defaults = {}
-    parser = Parser(Asked, Help("", ""))
-    parser.add_rows(rows)
-    passed_over = (Fault,) if passes_faults else ()
-    for line, place in lines_of(*file, DEFAULTS):
-        with suppress(*passed_over):
-            option, line_words = option_in(line, place)
-            if option.attribute not in rows:
+class Defaults(NamedTuple):
+    """The administrator's defaults, as a command has read them once."""
+
+    are_wanted: bool = False
+    file: tuple[str, bytes] | None = None  # Its path and its text; None if there is none.
+    lines: Sequence[DefaultLine] = ()
+
+    def values(self, options: Iterable[Option], passes_faults: bool = False) -> Values:
+        """What the lines give these options. Lines with a fault can be passed over; otherwise one
+        of these options, or of none, is a Fault."""
+        values: Values = {}
+        wanted = {option.name for option in options}
+        for option, value, fault in self.lines:
+            if option and option.name not in wanted:
                 continue
-            try:
-                (value,) = vars(parser.parse_args(line_words)).values()
-            except Fault as fault:
-                raise Fault(fault.status, f"{place}: {fault.text}") from None
-            if option.is_repeated:
-                value = [*defaults.get(option.attribute, ()), *value]
-            defaults[option.attribute] = value
-    return defaults
+            if fault and not passes_faults:
+                raise fault
+            if option and not fault:
+                former = values.get(option.attribute, ()) if option.is_repeated else ()
+                values[option.attribute] = [*former, *value] if option.is_repeated else value
+        return values
+
+
+def read_defaults(words: Sequence[str]) -> Defaults:
+    """The defaults; none if the words of the command line need none."""
+    before = set(words[: end_of_options(words)])
+    if before & {NO_DEFAULTS.name, "--help", "-h"}:
+        return Defaults()
+    path = administrators_file("defaults")
+    if path is None:
+        return Defaults(True)
+    file = (path, trusted_text(path, DEFAULTS))
+    parser = Parser(Asked, Help("", ""))
+    parser.add_rows({option.attribute: option for option in MAY_BE_DEFAULTS.values()})
+    return Defaults(True, file, [line_of(parser, *line) for line in lines_of(*file, DEFAULTS)])
+
+
+def line_of(parser: Parser, line: bytes, place: str) -> DefaultLine:
+    option = None
+    try:
+        option, words = option_in(line, place)
+        (value,) = vars(parser.parse_args(words)).values()
+        return DefaultLine(option, value, None)
+    except Fault as fault:
+        text = fault.text
+        if option:
+            text = f"{place}: {text}"
+        return DefaultLine(option, None, Fault(fault.status, text))
 
 
 def option_in(line: bytes, place: str) -> tuple[Option, list[str]]:

@@ -12,12 +12,12 @@ from aide_compare.base.ending import DeviceFault, Fault, Status, say, tell, usag
 from aide_compare.base.escapes import shown
 from aide_compare.base.files import blocks_of, nameless
 from aide_compare.base.options import KEEP_OPEN, MAX_SIZE, QUIET, SHA256, Asked, Operand, field
-from aide_compare.base.parser import Help, read
+from aide_compare.base.parser import Defaults, Help, read, read_defaults
 from aide_compare.base.paths import Pattern
 from aide_compare.base.terminal import answer_to
 from aide_compare.base.words import KINDS, date_of, minute_of
 from aide_compare.commands.compare import Printer
-from aide_compare.commands.compare_request import given_by, with_defaults
+from aide_compare.commands.compare_request import PrintRequest, with_defaults, work_request
 from aide_compare.commands.defaults import machines_databases
 from aide_compare.compare.baseline import Baseline
 from aide_compare.compare.kept_open import Merged, keep_open
@@ -143,20 +143,19 @@ open.""",
 YES = ("y", "yes")
 
 
-def compare_and_print(new: str, baseline: str) -> State:
+def compare_and_print(new: str, baseline: str, defaults: Defaults) -> State:
     """Compares as aide-compare does, with the same defaults and privileges, and prints what
     differs."""
-    words = ["--", baseline, new]
-    request = with_defaults(given_by(words), words)
-    ended = Printer(request).job().carry_out()
+    request = with_defaults(PrintRequest, {"databases": [baseline, new]}, defaults)
+    ended = Printer(request).job(work_request(request, defaults)).carry_out()
     if ended.status > 7:
         raise Fault(ended.status, "nothing was compared, so nothing is accepted")
     return ended.state()
 
 
-def wanted_after_question(new: str, baseline: str) -> str:
+def wanted_after_question(new: str, baseline: str, defaults: Defaults) -> str:
     """The SHA-256 of a new database that a person wants who has seen its changes."""
-    state = compare_and_print(new, baseline)
+    state = compare_and_print(new, baseline, defaults)
     line = f"New database: {shown(new)}"
     if state.new_written is not None:
         line += f", written {minute_of(state.new_written)}"
@@ -236,7 +235,10 @@ def run(request: AcceptRequest, is_quiet: bool) -> int:
 def main(arguments: Sequence[str]) -> int:
     asked = read(AcceptOptions, arguments, HELP)
     asked.refuse_contradictions()
-    new, baseline = asked.files or reversed(machines_databases(arguments))
-    digest = asked.digest or wanted_after_question(new, baseline)
+    defaults = Defaults()
+    if not (asked.files and asked.digest):
+        defaults = read_defaults(arguments)
+    new, baseline = asked.files or reversed(machines_databases(defaults))
+    digest = asked.digest or wanted_after_question(new, baseline, defaults)
     request = AcceptRequest(new, baseline, digest, asked.keep_open, asked.max_size)
     return run(request, asked.is_quiet)

@@ -10,7 +10,7 @@ from aide_compare.base.ending import DeviceFault, Fault, Status, say, usage_faul
 from aide_compare.base.escapes import shown
 from aide_compare.base.files import blocks_of, in_memory, trusted_text
 from aide_compare.base.options import MAX_SIZE, QUIET, USER, Asked, Operand, field, option
-from aide_compare.base.parser import Help, read
+from aide_compare.base.parser import Help, read, read_defaults
 from aide_compare.base.paths import key_of_path
 from aide_compare.base.processes import limit_memory, limit_time
 from aide_compare.base.replacement import replace_by_copy
@@ -133,7 +133,9 @@ def take_packages(
 
 def upgrades_of(old_copy: Copy, new_copy: Copy, request: ArchiveRequest) -> Upgrades:
     """What signed packages have brought between two databases."""
-    keyrings = {path: os.path.realpath(path) for path in request.keyrings}
+    own = next(filter(os.path.lexists, KEYRINGS), KEYRINGS[0])
+    named = [os.path.abspath(path) for path in request.keyrings or [own]]
+    keyrings = {path: os.path.realpath(path) for path in named}
     paths = {*keyrings, *keyrings.values(), *map(os.fsdecode, MERGED)}
     old = Night(old_copy, paths)
     new = Night(new_copy, paths)
@@ -164,23 +166,22 @@ def upgrades_of(old_copy: Copy, new_copy: Copy, request: ArchiveRequest) -> Upgr
     return upgrades
 
 
-def request_of(arguments: Sequence[str]) -> ArchiveRequest:
-    request = read(ArchiveRequest, arguments, HELP)
+def databases_of(request: ArchiveRequest, arguments: Sequence[str]) -> Sequence[str]:
+    """The databases, of which none is an output."""
     if len(request.databases) not in (0, 2) or not request.directories:
         raise usage_fault("name --from, and both databases, OLD and NEW, or none")
-    databases = request.databases or machines_databases(arguments)
+    databases = request.databases or machines_databases(read_defaults(arguments))
     output = request.output
     read_from = {os.path.realpath(path) for path in databases}
     if output and read_from & {os.path.realpath(output), os.path.realpath(f"{output}.old")}:
         why = "--output is one of the databases, or FILE.old is, which would be replaced"
         raise Fault(Status.USAGE, why)
-    own = next(filter(os.path.lexists, KEYRINGS), KEYRINGS[0])
-    keyrings = [os.path.abspath(path) for path in request.keyrings or [own]]
-    return request.but(databases=databases, keyrings=keyrings)
+    return databases
 
 
 def main(arguments: Sequence[str]) -> int:
-    request = request_of(arguments)
+    request = read(ArchiveRequest, arguments, HELP)
+    old_path, new_path = databases_of(request, arguments)
     if not request.output:
         refuse_terminal()
     if request.user:
@@ -189,11 +190,11 @@ def main(arguments: Sequence[str]) -> int:
         become_owner(request.output)
     limit_memory(MAX_MEMORY)
     limit_time(MAX_SECONDS)
-    old = copy_database("old", request.databases[0], request.max_size)
+    old = copy_database("old", old_path, request.max_size)
     if request.output:  # However this ends from here on, that of another night is gone.
         for path in (request.output, f"{request.output}.old"):
             replace_by_copy(path, old.fd)
-    new = copy_database("new", request.databases[1], request.max_size)
+    new = copy_database("new", new_path, request.max_size)
     refuse_unsound(new, old)
     upgrades = upgrades_of(old, new, request)
     made = upgraded(old, new, upgrades)

@@ -1,204 +1,41 @@
-"""aide-compare: compares two databases, explains errors, and keeps the result in a state file."""
+"""aide-compare: compares two databases, and prints what differs."""
 from __future__ import annotations
 
 import os
 import re
 from collections.abc import Iterable, Sequence
-from contextlib import suppress
 from functools import partial
 from typing import TYPE_CHECKING
 
-from aide_compare.base.ending import Fault, ReaderGone, fault_of, write_blocks
+from aide_compare.base import kinds
+from aide_compare.base.ending import Fault, ReaderGone, write_blocks
 from aide_compare.base.escapes import encoded, shown
-from aide_compare.base.files import blocks_of, nameless, private_place
+from aide_compare.base.files import blocks_of
+from aide_compare.base.options import STATE, option
+from aide_compare.base.parser import Defaults, Help, Parser, filled, read_defaults
 from aide_compare.base.program import NOTICE, is_for_looking, need_proof
-from aide_compare.base.options import STATE
-from aide_compare.base.replacement import ANYBODY_READS, remove, replace
-from aide_compare.base.rights import become_owner, give_up
+from aide_compare.base.rights import give_up
 from aide_compare.base.words import date_of, words_of_side
 from aide_compare.commands.compare_request import (
-    CompareRequest,
+    EPILOG,
     PrintRequest,
-    checked,
-    given_by,
+    refuse_names,
     with_defaults,
     work_request,
 )
+from aide_compare.commands.comparison_job import ComparisonJob, Row, keep_failure
 from aide_compare.commands.defaults import machines_state
-from aide_compare.compare.comparison import Comparison
-from aide_compare.compare.outputs import (
-    STDOUT,
-    Output,
-    descriptor_of,
-    file_output,
-    notes,
-    open_output,
-)
+from aide_compare.compare.comparison import Comparison, ComparisonInput
+from aide_compare.compare.outputs import STDOUT, notes
 from aide_compare.compare.report import report_of
-from aide_compare.compare.state import failed_state, read_state
-from aide_compare.compare.unpack import Opened
-from aide_compare.compare.work import compare_opened, open_databases
-from aide_compare.lines.change import Counts
 from aide_compare.mail.message import clean
 from aide_compare.show.notes import no_difference, told_of
 from aide_compare.show.outputs import JSON
 
 if TYPE_CHECKING:
+    from aide_compare.base.paths import Pattern
     from aide_compare.changes.judged import Judged
-    from aide_compare.show.outputs import Maker
 
-
-def keep_failure(path: str | None, error: Exception) -> None:
-    """Writes into the state file that a run has failed, as by a fault in the defaults: otherwise
-    the result of an earlier run would look like that of today. If it cannot be made or written, as
-    on a full disk, it is removed."""
-    if path is None or is_for_looking():
-        return
-    with suppress(Fault, OSError):
-        if os.path.lexists(path):
-            read_state(path)  # What is no state stays, such as a database or a device.
-        become_owner(path)
-        try:
-            text = failed_state(error).text()
-            replace(path, text, ANYBODY_READS, "the state file", makes_directory=False)
-        except Exception:
-            remove(path)
-
-
-class Row:
-    """An output: its place, which is open before anything is compared, and what makes its bytes.
-    These are made before any place gets its own. An output `of_failure` is made anew after a
-    failure: its few bytes are in memory, so that it needs no disk and no descriptor."""
-
-    def __init__(self, place: Output, make: Maker, of_failure: bool = False) -> None:
-        self.place = place
-        self.make = make
-        self.of_failure = of_failure
-        self.blocks: Iterable[bytes] = ()
-        self.is_put = False  # Its place has bytes, or has refused them.
-
-    def write(self, comparison: Comparison, judged: Judged | None) -> None:
-        """Makes the bytes."""
-        blocks = self.make(comparison, judged)
-        if self.of_failure:
-            self.blocks = [b"".join(blocks)]
-        else:
-            target = nameless()
-            write_blocks(target, blocks, f"cannot keep an output in {private_place()}")
-            self.blocks = blocks_of(target)
-
-    def put(self) -> None:
-        """Hands the bytes to the place."""
-        self.is_put = True
-        self.place(self.blocks)
-
-
-def output_rows(request: CompareRequest) -> list[Row]:
-    """The outputs that options name, with their places open."""
-    return [
-        Row(open_output(path, f"the output of {row.option.name}"), row.make)
-        for row, path in request.outputs
-    ]
-
-
-def state_bytes(comparison: Comparison, _judged: Judged | None) -> Sequence[bytes]:
-    return [comparison.state().text()]
-
-
-class ComparisonJob:
-    """A comparison that is carried out, and its outputs. `judges`: one of these needs its changes
-    with their standings."""
-
-    def __init__(
-        self,
-        request: CompareRequest,
-        before: Sequence[Row] = (),
-        after: Sequence[Row] = (),
-        judges: bool = True,
-    ) -> None:
-        self.judges = judges
-        self.options = request
-        self.request = work_request(request)
-        self.before = before
-        self.after = after
-        self.rows: Sequence[Row] = ()
-        self.judged: Judged | None = None
-
-    def carry_out(self) -> Comparison:
-        """Compares, judges, and writes what is wanted. Root opens the databases, and then becomes
-        for good the user in whose directories the baseline and the outputs are."""
-        comparison = Comparison(self.request)
-        opened: Sequence[Opened] = ()
-        try:
-            opened = open_databases(comparison)
-        except Exception as error:
-            comparison.fail(error)
-        self._open_outputs(comparison)
-        if not comparison.has_failed:
-            compare_opened(comparison, opened)
-        try:
-            if not comparison.has_failed:
-                self._write(comparison)
-        except Exception as error:
-            comparison.fail(error)
-        if comparison.has_failed:
-            self._write_failure(comparison)
-        return comparison
-
-    def _open_outputs(self, comparison: Comparison) -> None:
-        """Opens the places of the outputs, as the user in whose directories they and the baseline
-        are may write them. Of two failures the first one is kept, and both are told."""
-        state_file = None
-        try:
-            if not self.options.user:
-                files = [path for path in self.options.paths if descriptor_of(path) is None]
-                become_owner(self.request.old, *files)
-            if self.options.state:
-                state_file = file_output(self.options.state, "the state file", ANYBODY_READS)
-            rows = [*self.before, *output_rows(self.options)]
-        except Fault as fault:
-            reason = comparison.fault or fault
-            keep_failure(self.options.state, reason)
-            if reason is not fault:
-                reason.more += (fault.text,)
-            raise reason
-        if state_file:
-            rows.append(Row(state_file, state_bytes, of_failure=True))
-        self.rows = [*rows, *self.after]
-
-    def _write(self, comparison: Comparison) -> None:
-        """Judges a comparison, makes all outputs, and then hands them to their places in their
-        order."""
-        if self.judges and comparison.status == 0:
-            comparison.standings = Counts()
-        elif self.judges and comparison.differs:
-            # The modules for it are more than all others together.
-            from aide_compare.show.judgement import judge
-
-            self.judged = judge(comparison)
-        for row in self.rows:
-            row.write(comparison, self.judged)
-        for row in self.rows:
-            row.put()
-
-    def _write_failure(self, comparison: Comparison) -> None:
-        """Each place of a failure gets the cause, whatever becomes of the others."""
-        failed: Exception | None = None
-        for row in self.rows:
-            if row.of_failure:
-                try:
-                    row.write(comparison, self.judged)
-                    row.put()
-                except Exception as error:
-                    failed = failed or error
-        if failed:
-            keep_failure(self.options.state, failed)
-            if not comparison.fault or comparison.fault.text != fault_of(failed).text:
-                raise failed
-
-
-# Outputs that programs read. Who reads them does not see that an answer is not proved.
-READ_BY_PROGRAMS = (STATE, JSON)
 NO_LIST = "the report does not use the list: it contains what is left out, and AIDE's status counts"
 # What standard output gets, unless -q says otherwise: what people read first, the changes of some
 # paths, the report of AIDE, or nothing.
@@ -211,7 +48,7 @@ REPORT_OPTION = r"(?m)^[ \t]*report_"
 
 def form_of(request: PrintRequest) -> str:
     """What standard output gets: nothing if it is the place of an output."""
-    if request.only:
+    if request.pattern:
         return ONLY
     if request.wants_report:
         return REPORT
@@ -233,7 +70,7 @@ class Printer:
         place = partial(write_blocks, STDOUT, words="cannot write the report")
         self.printed = Row(place, self._printed)
 
-    def job(self) -> ComparisonJob:
+    def job(self, work: ComparisonInput) -> ComparisonJob:
         """The comparison that prints so."""
         before = [Row(notes, self._notes)]
         after = [Row(notes, self._failure, of_failure=True)]
@@ -241,7 +78,7 @@ class Printer:
             before.append(self.printed)
             after.append(Row(self.printed.place, self._unjudged, of_failure=True))
         judges = self.form != REPORT or self.request.paths
-        return ComparisonJob(self.request, before, after, bool(judges))
+        return ComparisonJob(self.request, work, before, after, bool(judges))
 
     def status_of(self, comparison: Comparison) -> int:
         """The status of the command. A report has AIDE's."""
@@ -259,10 +96,10 @@ class Printer:
         """What was asked for. If the changes are not known, that is the report."""
         if self.form != REPORT and comparison.status == 0:
             return [no_difference(comparison)]
-        if self.request.only:
+        if self.request.pattern:
             from aide_compare.show.changes import changes_with_values
 
-            return changes_with_values(comparison, judged, self.request.only)
+            return changes_with_values(comparison, judged, self.request.pattern)
         if self.form == BRIEF and judged is not None:
             from aide_compare.show.brief import brief_of
 
@@ -302,22 +139,61 @@ class Printer:
             yield encoded(told_of(comparison, self.request.is_quiet, self.request.is_verbose))
 
 
-def main(arguments: Sequence[str]) -> int:
-    given = given_by(arguments)
-    own_request = checked(given)
+def print_comparison(asked: type[PrintRequest], help: Help, arguments: Sequence[str]) -> int:
+    """Compares and prints as the arguments of a command ask for it. Returns the status."""
+    given = Parser(asked, help).parse(arguments)
+    own_request = filled(asked, given, {})
+    refuse_names(own_request)
     if own_request.user:
         give_up(own_request.user)
+    defaults = Defaults()
     try:
-        own_request = with_defaults(given, arguments)
-        for option in READ_BY_PROGRAMS:
-            if vars(own_request)[option.attribute]:
-                need_proof(option.name)
-        printer = Printer(own_request)
-        if printer.form == REPORT:
-            need_proof("the report")
-        job = printer.job()
+        defaults = read_defaults(arguments)
+        request = with_defaults(asked, given, defaults)
+        refuse_without_proof(request)
+        printer = Printer(request)
+        job = printer.job(work_request(request, defaults))
     except Fault as fault:
-        state = own_request.state or machines_state(own_request.databases, arguments)
+        state = own_request.state or machines_state(defaults, own_request.databases)
         keep_failure(state, fault)
         raise
     return printer.status_of(job.carry_out())
+
+
+def refuse_without_proof(request: PrintRequest) -> None:
+    """Refuses what a program reads, if the program is not proved."""
+    if request.state:
+        need_proof(STATE.name)
+    if any(row.option == JSON for row, _ in request.outputs):
+        need_proof(JSON.name)
+    if form_of(request) == REPORT:
+        need_proof("the report")
+
+
+HELP = Help(
+    name="aide-compare compare",
+    usage="aide-compare [compare] [OPTIONS] [OLD NEW]",
+    description="""\
+Compares two AIDE databases, plain or compressed by gzip, and prints what differs,
+the most severe first, and with --report the report of aide-compare-program(8).""",
+    epilog=f"{EPILOG} With --report that of aide-compare-program(8), by all changes.",
+)
+
+
+class CommandRequest(PrintRequest):
+    """What `compare` asks for."""
+
+    wants_report: bool = option(
+        "--report", "print the report of the program, as with an option report_* in -A"
+    )
+    pattern: Pattern | None = option(
+        "--only",
+        "print only the changes of these paths, as '/etc/**', with their values",
+        "PATTERN",
+        kind=kinds.pattern,
+        is_single=True,
+    )
+
+
+def main(arguments: Sequence[str]) -> int:
+    return print_comparison(CommandRequest, HELP, arguments)

@@ -7,7 +7,6 @@ from typing import TYPE_CHECKING
 
 from aide_compare.base.ending import Fault, Status, usage_fault
 from aide_compare.base.escapes import shown
-from aide_compare.base.kinds import pattern
 from aide_compare.base.options import (
     AFTER,
     CONFIG,
@@ -20,13 +19,13 @@ from aide_compare.base.options import (
     STATE,
     TRUSTED,
     USER,
+    VERBOSE,
     Asked,
     Operand,
     Option,
     field,
-    option,
 )
-from aide_compare.base.parser import DIRECTORY, Given, Help, Parser, filled
+from aide_compare.base.parser import DIRECTORY, Asks, Defaults, Values, filled
 from aide_compare.commands.defaults import ADVICE, comparison_defaults, exclusions_of
 from aide_compare.compare.comparison import ComparisonInput
 from aide_compare.compare.configuration import NONE
@@ -36,27 +35,18 @@ from aide_compare.show.outputs import OUTPUTS, OutputRow
 if TYPE_CHECKING:
     from aide_compare.base.paths import Pattern
 
-HELP = Help(
-    name="aide-compare compare",
-    usage="aide-compare [compare | json | page] [OPTIONS] [OLD NEW]",
-    description="""\
-Compares two AIDE databases, plain or compressed by gzip, and prints what differs,
-the most severe first; show prints the change of one path, json lines of JSON, page a page, and
---report the report of aide-compare-program(8).""",
-    epilog="""\
+EPILOG = """\
 Times are as in 90s, 15m, 26h or 3d; a plain number is seconds. Sizes are in bytes, or as in
 500k, 20M or 1G. Root becomes the user in whose directories the baseline and the outputs are, unless
 --user names another one.
 
 Status: 0 nothing to read; 1 added, 2 removed, 4 changed, and sums of these, by the changes that are
-not silent; above 7 a failure. With --report that of aide-compare-program(8), by all changes.""",
-)
+not silent; above 7 a failure."""
 
 
 class CompareRequest(Asked):
     """What the options of a comparison ask for, whatever becomes of it."""
 
-    is_quiet: bool = field(QUIET, help="print neither the report nor most notes")
     databases: Sequence[str] = field(
         Operand(
             "OLD NEW",
@@ -85,7 +75,7 @@ class CompareRequest(Asked):
     @property
     def outputs(self) -> Sequence[tuple[OutputRow, str]]:
         """Further outputs, each with its place."""
-        places = [(row, vars(self)[row.option.attribute]) for row in OUTPUTS]
+        places = [(row, vars(self).get(row.option.attribute)) for row in OUTPUTS]
         return [(row, path) for row, path in places if path]
 
     @property
@@ -103,31 +93,35 @@ class CompareRequest(Asked):
 class PrintRequest(CompareRequest):
     """The same of a command that prints the comparison."""
 
-    wants_report: bool = option(
-        "--report", "print the report of the program, as with an option report_* in -A"
-    )
-    only: Pattern | None = option(
-        "--only",
-        "print only the changes of these paths, as '/etc/**', with their values",
-        "PATTERN",
-        kind=pattern,
-        is_single=True,
-    )
+    is_quiet: bool = field(QUIET, help="print neither what differs nor most notes")
+    is_verbose: bool = field(VERBOSE)
+    wants_report: bool = False
+    pattern: Pattern | None = None  # Of the paths whose changes are printed, if not all are.
 
     @property
     def places(self) -> list[int | str]:
-        printed = filter(None, (self.wants_report, self.only))
+        printed = filter(None, (self.wants_report, self.pattern))
         return [*super().places, *(STDOUT for _ in printed)]
 
 
-def given_by(arguments: Sequence[str], usage: str = HELP.usage) -> Given:
-    """What the arguments give."""
-    return Parser(PrintRequest, HELP._replace(usage=usage)).parse(arguments)
+class OutputRequest(PrintRequest):
+    """The same of a command that prints one of the outputs."""
+
+    output: OutputRow
+
+    @classmethod
+    def rows(cls) -> dict[str, Option | Operand]:
+        rows = super().rows()
+        del rows[cls.output.option.attribute]
+        return rows
+
+    @property
+    def outputs(self) -> Sequence[tuple[OutputRow, str]]:
+        return [*super().outputs, (self.output, "-")]
 
 
-def checked(given: Given) -> CompareRequest:
-    """What a command line alone asks for, with no database or with both."""
-    request = filled(CompareRequest, given, {})
+def refuse_names(request: CompareRequest) -> None:
+    """Refuses one database alone, and more than two."""
     databases = request.databases
     text = ""
     if len(databases) == 1:
@@ -142,17 +136,15 @@ def checked(given: Given) -> CompareRequest:
         raise usage_fault(text)
     if request.configuration and not databases:
         raise usage_fault("--config names no databases: name OLD and NEW")
-    return request
 
 
-def with_defaults(given: Given, arguments: Sequence[str]) -> PrintRequest:
-    """What the arguments ask for that give these values, and the administrator's defaults where
-    these say nothing."""
-    defaults = comparison_defaults(given["databases"], arguments)
-    return filled(PrintRequest, given, defaults)
+def with_defaults(asked: type[Asks], given: Values, defaults: Defaults) -> Asks:
+    """What a command line asks for that gives these values, and the administrator's defaults where
+    it says nothing."""
+    return filled(asked, given, comparison_defaults(defaults, given["databases"]))
 
 
-def work_request(request: CompareRequest) -> ComparisonInput:
+def work_request(request: CompareRequest, defaults: Defaults) -> ComparisonInput:
     """What is compared, and how."""
     if not request.databases:
         raise Fault(Status.USAGE, "no databases are named", ADVICE)
@@ -174,7 +166,7 @@ def work_request(request: CompareRequest) -> ComparisonInput:
         max_size=request.max_size,
         max_age=request.max_age,
         exclusions=exclusions_of(
-            request.exclude_from, request.exclude, not request.no_defaults, request.databases
+            request.exclude_from, request.exclude, defaults, request.databases
         ),
         trusted=request.trusted,
     )

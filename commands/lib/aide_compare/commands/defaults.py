@@ -17,7 +17,7 @@ from aide_compare.base.options import (
     STATE,
     TRUSTED,
 )
-from aide_compare.base.parser import Defaults, administrators_file, defaults_file, defaults_for
+from aide_compare.base.parser import Defaults, Values, administrators_file
 
 if TYPE_CHECKING:
     from aide_compare.compare.exclusions import Exclusions
@@ -26,22 +26,21 @@ if TYPE_CHECKING:
 ADVICE = "name OLD and NEW, or as root: aide-compare setup"
 
 
-def machines_databases(words: Sequence[str]) -> Sequence[str]:
+def machines_databases(defaults: Defaults) -> Sequence[str]:
     """The baseline and the new database of this machine, as the administrator's defaults name
     them."""
-    named = defaults_for((DATABASES,), words).get(DATABASES.attribute)
+    named = defaults.values((DATABASES,)).get(DATABASES.attribute)
     if not named:
         raise Fault(Status.USAGE, "no databases are named", ADVICE)
     return list(named)
 
 
-def machines_state(databases: Sequence[str], words: Sequence[str]) -> str | None:
+def machines_state(defaults: Defaults, databases: Sequence[str]) -> str | None:
     """The state file that the administrator's defaults name for this machine, though other lines
     of them have a fault."""
-    with suppress(Fault):
-        defaults = defaults_for((STATE, DATABASES), words, passes_faults=True)
-        if not databases or are_named(databases, defaults):
-            return defaults.get(STATE.attribute)
+    values = defaults.values((STATE, DATABASES), passes_faults=True)
+    if not databases or are_named(databases, values):
+        return values.get(STATE.attribute)
     return None
 
 
@@ -52,50 +51,48 @@ def is_same(path: str, named: str) -> bool:
     return os.path.realpath(path) == os.path.realpath(named)
 
 
-def are_named(databases: Sequence[str], defaults: Defaults) -> bool:
+def are_named(databases: Sequence[str], values: Values) -> bool:
     """Whether the databases are those that the defaults name, by whatever names."""
-    named = defaults.get(DATABASES.attribute, ())
+    named = values.get(DATABASES.attribute, ())
     return bool(named) and all(map(is_same, databases, named))
 
 
 def comparison_defaults(
-    databases: Sequence[str],
-    words: Sequence[str],
-    note: Callable[[str], None] = say,
-) -> Defaults:
+    defaults: Defaults, databases: Sequence[str], note: Callable[[str], None] = say
+) -> Values:
     """What the administrator's defaults give the options of a comparison. `databases` are those
-    that the words of the command line name, if they name some."""
-    defaults = defaults_for(COMPARISON_DEFAULTS, words)
-    if databases and not are_named(databases, defaults):
+    that the command line names, if it names some."""
+    values = defaults.values(COMPARISON_DEFAULTS)
+    if databases and not are_named(databases, values):
         names = {option.attribute for option in MACHINES_DEFAULTS}
-        return {name: value for name, value in defaults.items() if name not in names}
-    named = defaults.get(DATABASES.attribute, ())
+        return {name: value for name, value in values.items() if name not in names}
+    named = values.get(DATABASES.attribute, ())
     if named and is_missing(named[0]):
         note(f"there is no baseline {shown(named[0])}: as root, aide-compare setup makes it")
-    missing = [path for path in defaults.get(TRUSTED.attribute, ()) if not os.path.lexists(path)]
+    missing = [path for path in values.get(TRUSTED.attribute, ()) if not os.path.lexists(path)]
     if missing:
         note(f"there is no {shown(missing[0])} yet, so it accounts for no change")
-        del defaults[TRUSTED.attribute]
-    return defaults
+        del values[TRUSTED.attribute]
+    return values
 
 
 def exclusions_of(
     paths: Sequence[str],
     patterns: Sequence[str],
-    reads_defaults: bool,
+    defaults: Defaults,
     databases: Sequence[str] = (),
 ) -> Exclusions | None:
     """The list of what is left out: the files of the options, or else that of the administrator,
     and the patterns. If the defaults name these databases, they are looked up with it, and so is
     the table of severities."""
     others: dict[str, bytes] = {}
-    if reads_defaults and databases and are_named(databases, defaults_for((DATABASES,), ())):
+    if databases and are_named(databases, defaults.values((DATABASES,))):
         from aide_compare.changes.severity import shipped_table
 
-        others = dict(filter(None, [defaults_file()]))
+        others = dict(filter(None, [defaults.file]))
         with suppress(Fault):  # Whoever judges the changes says that there is no table.
             others.update([shipped_table()])
-    if not paths and reads_defaults:
+    if not paths and defaults.are_wanted:
         usual = administrators_file("without")
         if usual:
             paths = [usual]

@@ -9,7 +9,7 @@ from typing import NoReturn
 from aide_compare.base.ending import Fault, OSErrorAsFault, Status, called, tell
 from aide_compare.base.escapes import shown
 
-# Each but those in SHORT is a module, of which only the one that is asked for is loaded.
+# Each is a module, of which only the one that is asked for is loaded.
 COMMANDS = (
     "compare",
     "show",
@@ -23,8 +23,6 @@ COMMANDS = (
     "setup",
     "version",
 )
-# These are comparisons with an output.
-SHORT = {"json": ("--json", "-"), "page": ("--page", "-")}
 # Of these the module begins with hosts_.
 HOSTS = ("add", "list", "remove", "compare", "accept", "report")
 # What takes an answer for the truth: it refuses a program that is not proved.
@@ -175,6 +173,4 @@ def run_command(name: str, arguments: Sequence[str]) -> int:
         called(f"aide-compare {name}")
     if name in NEED_PROOF:
         check_proof(name, arguments)
-    if name in SHORT:
-        return loaded("compare")([*SHORT[name], *arguments])
     return loaded(name)(arguments)

@@ -8,7 +8,7 @@ from functools import partial
 
 from aide_compare.base.ending import Fault, OSErrorAsFault, Status, status_of, tell
 from aide_compare.base.files import reopened
-from aide_compare.base.options import HOSTS_OPTION, SHA256, HostsAsked, Operand, field
+from aide_compare.base.options import HOSTS_OPTION, QUIET, SHA256, HostsAsked, Operand, field
 from aide_compare.base.parser import Help, read
 from aide_compare.base.processes import limit_memory, limit_time
 from aide_compare.base.terminal import answer_to
@@ -35,6 +35,7 @@ database, there is a baseline of HOST already, or it sent no sound database.""",
 class AddRequest(HostsAsked):
     """What the options ask for."""
 
+    is_quiet: bool = field(QUIET, help="do not print what was done")
     hosts_file: str = field(HOSTS_OPTION)
     digest: str | None = field(
         SHA256, help="of one HOST: what its own zcat -f FILE | sha256sum has said"

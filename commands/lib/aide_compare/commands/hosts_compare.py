@@ -6,7 +6,7 @@ from collections.abc import Iterator, Sequence
 from aide_compare.base.ending import Fault, Status, fault_of, tell
 from aide_compare.base.escapes import guarded
 from aide_compare.base.options import EXCLUDE, EXCLUDE_FROM
-from aide_compare.base.parser import Help, defaults_for, read
+from aide_compare.base.parser import Help, read, read_defaults
 from aide_compare.base.files import in_memory
 from aide_compare.commands.defaults import exclusions_of
 from aide_compare.compare.comparison import ComparisonInput
@@ -14,7 +14,7 @@ from aide_compare.compare.exclusions import Exclusions
 from aide_compare.compare.unpack import Copy
 from aide_compare.compare.work import compare
 from aide_compare.hosts.canary import keep_note, trusted_pair
-from aide_compare.hosts.host_comparison import MAX_JUDGED, MAX_KEPT, HostsRequest
+from aide_compare.hosts.host_comparison import MAX_JUDGED, MAX_KEPT, HostsRequest, HostsRun
 from aide_compare.hosts.hosts_file import hosts_of
 from aide_compare.hosts.report_values import HostCounts
 from aide_compare.hosts.workers import HostResult, results, without_name
@@ -44,33 +44,34 @@ def tell_or_keep(failures: list[Fault], line: str) -> None:
 
 
 def results_beside(
-    canary: str, hosts: Sequence[str], request: HostsRequest, failures: list[Fault]
+    canary: str, hosts: Sequence[str], run: HostsRun, failures: list[Fault]
 ) -> Iterator[HostResult]:
     """The results of all hosts beside the canary, whose own result comes first. Without its pair
     the others are compared all the same, and that is said before them."""
-    (first,) = results([canary], request.but(max_kept=MAX_JUDGED))
+    (first,) = results([canary], run._replace(max_kept=MAX_JUDGED))
     yield first
-    beside = request
+    beside = run
     note = ""
     try:
         if first.status > 7:
             raise Fault(first.status, first.text)
-        beside = request.but(trusted=trusted_pair(canary, request))
+        beside = run._replace(trusted=trusted_pair(canary, run))
     except (Fault, OSError) as error:
         why = without_name(canary, fault_of(error).text)
         note = f"canary {canary} was not used, so the others were compared without it: {why}"
         tell_or_keep(failures, guarded(note))
-    keep_note(request.store, note)
+    keep_note(run.request.store, note)
     yield from results([host for host in hosts if host != canary], beside)
 
 
-def compare_all(request: HostsRequest, hosts: Sequence[str]) -> int:
+def compare_all(run: HostsRun, hosts: Sequence[str]) -> int:
     """Prints a line for each host and the summary; returns the greatest status."""
     failures: list[Fault] = []
+    request = run.request
     if request.canary:
-        all_results = results_beside(request.canary, hosts, request, failures)
+        all_results = results_beside(request.canary, hosts, run, failures)
     else:
-        all_results = results(hosts, request)
+        all_results = results(hosts, run)
     found = []
     worst = 0
     for result in all_results:
@@ -95,16 +96,17 @@ def refuse_faulty(exclusions: Exclusions) -> None:
         raise comparison.fault
 
 
-def request_of(arguments: Sequence[str]) -> HostsRequest:
+def run_of(arguments: Sequence[str]) -> HostsRun:
     # Of the defaults only what is left out: a trusted pair there is one of this machine.
-    defaults = defaults_for((EXCLUDE_FROM, EXCLUDE), arguments)
-    request = read(HostsRequest, arguments, HELP, defaults)
-    exclusions = exclusions_of(request.exclude_from, request.exclude, not request.no_defaults)
+    defaults = read_defaults(arguments)
+    values = defaults.values((EXCLUDE_FROM, EXCLUDE))
+    request = read(HostsRequest, arguments, HELP, values)
+    exclusions = exclusions_of(request.exclude_from, request.exclude, defaults)
     if exclusions:
         refuse_faulty(exclusions)
         # What a host has at the path of such a file is not the list of this machine.
         exclusions = exclusions._replace(files={}, links={})
-    return request.but(exclusions=exclusions, trusted={}, max_kept=MAX_KEPT)
+    return HostsRun(request, exclusions, MAX_KEPT)
 
 
 def hosts_to_compare(request: HostsRequest) -> list[str]:
@@ -119,5 +121,5 @@ def hosts_to_compare(request: HostsRequest) -> list[str]:
 
 
 def main(arguments: Sequence[str]) -> int:
-    request = request_of(arguments)
-    return compare_all(request, hosts_to_compare(request))
+    run = run_of(arguments)
+    return compare_all(run, hosts_to_compare(run.request))

@@ -24,11 +24,11 @@ from aide_compare.base.options import (
     field,
     option,
 )
-from aide_compare.base.parser import Defaults, Given, Help, Parser, defaults_for, filled
+from aide_compare.base.parser import Defaults, Help, Parser, Values, filled, read_defaults
 from aide_compare.base.replacement import Replacement
 from aide_compare.base.rights import become_owner, give_up
-from aide_compare.commands.compare import ComparisonJob, Row, keep_failure
-from aide_compare.commands.compare_request import CompareRequest, checked
+from aide_compare.commands.comparison_job import ComparisonJob, Row, keep_failure
+from aide_compare.commands.compare_request import CompareRequest, refuse_names, work_request
 from aide_compare.commands.defaults import comparison_defaults, machines_state
 from aide_compare.compare.comparison import Comparison
 from aide_compare.compare.state import State, failed_state, read_state
@@ -68,14 +68,21 @@ class MailRequest(CompareRequest):
     sent_is_success: bool = option(
         "--alarm-sent-is-success", "end with 0 also after differences or errors that were mailed"
     )
-    fault: Fault | None  # Of the defaults: it is mailed.
-    notes: Sequence[str]  # What has to be said of the defaults.
 
 
-def refuse_contradictions(request: MailRequest, given: Given) -> None:
-    """Refuses what means nothing without another word, or with it."""
-    checked(given)
-    if "weekly" in given and not (request.state or request.fault):
+class MailJob(NamedTuple):
+    """What is compared and mailed, and how."""
+
+    request: MailRequest
+    defaults: Defaults
+    fault: Fault | None = None  # Of the defaults: it is mailed.
+    notes: Sequence[str] = ()  # What has to be said of the defaults.
+
+
+def refuse_contradictions(request: MailRequest, given: Values, fault: Fault | None) -> None:
+    """Refuses what means nothing without another word, or with it. `fault`: of the defaults."""
+    refuse_names(filled(CompareRequest, given, {}))
+    if "weekly" in given and not (request.state or fault):
         text = "--weekly needs --state: a file next to it says when the last one was sent"
         raise Fault(Status.USAGE, text)
     if request.unit_failed and not request.send_queue:
@@ -86,34 +93,36 @@ def refuse_contradictions(request: MailRequest, given: Given) -> None:
         raise Fault(Status.USAGE, "with --send-queue or --test no databases are compared")
 
 
-def request_of(words: Sequence[str]) -> MailRequest:
+def job_of(words: Sequence[str]) -> MailJob:
     """What the options ask for, and the administrator's defaults where they say nothing. A fault of
     the defaults costs no mail, and the mail says it."""
     given = Parser(MailRequest, HELP).parse(words)
     compares = "send_queue" not in given and "is_test" not in given
-    defaults: Defaults = {}
+    defaults = Defaults()
+    values: Values = {}
     notes: list[str] = []
     fault = None
     try:
+        defaults = read_defaults(words)
         if compares:
-            defaults = comparison_defaults(given["databases"], words, note=notes.append)
-        defaults.update(defaults_for(MAIL_DEFAULTS, words))
+            values = comparison_defaults(defaults, given["databases"], note=notes.append)
+        values.update(defaults.values(MAIL_DEFAULTS))
     except Fault as error:
         fault = error
         if compares:
-            defaults.setdefault(STATE.attribute, machines_state(given["databases"], words))
+            values.setdefault(STATE.attribute, machines_state(defaults, given["databases"]))
         else:
             say(error.text)
-    request = filled(MailRequest, given, defaults).but(fault=fault, notes=notes)
-    refuse_contradictions(request, given)
-    return request
+    request = filled(MailRequest, given, values)
+    refuse_contradictions(request, given, fault)
+    return MailJob(request, defaults, fault, notes)
 
 
 MAX_PAGE = 1 << 19  # Bytes of the page of a mail.
 
 
 def message_of(
-    request: MailRequest,
+    job: MailJob,
     before: Sequence[str] | None,
     comparison: Comparison,
     judged: Judged | None,
@@ -121,15 +130,15 @@ def message_of(
     """The mail of a comparison. If a mistake of ours keeps it from being made, the comparison has
     failed, and the mail says only that."""
     try:
-        yield from whole_message(request, before, comparison, judged)
+        yield from whole_message(job, before, comparison, judged)
     except Exception as error:
         if not comparison.has_failed:
             raise
-        yield failure_message(request, comparison.fault or fault_of(error))
+        yield failure_message(job, comparison.fault or fault_of(error))
 
 
 def whole_message(
-    request: MailRequest,
+    job: MailJob,
     before: Sequence[str] | None,
     comparison: Comparison,
     judged: Judged | None,
@@ -142,35 +151,35 @@ def whole_message(
         columns = [name for name in state.skipped if name not in before]
     if not (state.told_status or columns or comparison.warnings):
         return
-    notes = notes_of(request, comparison)
+    notes = notes_of(job, comparison)
     page = None
-    if request.has_page and comparison.differs:
+    if job.request.has_page and comparison.differs:
         page = page_of(comparison, judged, notes)
     lines = lines_of_mail(comparison, judged, notes)
     text = clean("".join(f"{line}\n" for line in lines))
     subject = subject_of(state, columns, comparison.warnings)
-    yield build(request.address, subject, text, page)
+    yield build(job.request.address, subject, text, page)
 
 
-def failure_notes(request: MailRequest, fault: Fault) -> list[str]:
+def failure_notes(job: MailJob, fault: Fault) -> list[str]:
     """The lines of a mail that knows nothing of a comparison."""
     notes = [f"aide-compare: {guarded(text)}" for text in (fault.text, *fault.more)]
-    return notes + [f"{HELP.name}: {note}" for note in request.notes]
+    return notes + [f"{HELP.name}: {note}" for note in job.notes]
 
 
-def failure_message(request: MailRequest, fault: Fault) -> bytes:
+def failure_message(job: MailJob, fault: Fault) -> bytes:
     from aide_compare.mail.columns import note_lines
 
-    lines = note_lines(failure_notes(request, fault))
-    return short_mail(request, f"failure (status {fault.status})", "\n".join((*lines, "")))
+    lines = note_lines(failure_notes(job, fault))
+    return short_mail(job.request, f"failure (status {fault.status})", "\n".join((*lines, "")))
 
 
-def notes_of(request: MailRequest, comparison: Comparison) -> list[str]:
+def notes_of(job: MailJob, comparison: Comparison) -> list[str]:
     """The lines beside the changes: what was not compared, what the program says, and what is wrong
     with the defaults."""
     warnings = {f"aide-compare: {guarded(warning)}" for warning in comparison.warnings}
     notes = [line for line in told_of(comparison).split("\n") if line and line not in warnings]
-    return notes + [f"{HELP.name}: {note}" for note in request.notes]
+    return notes + [f"{HELP.name}: {note}" for note in job.notes]
 
 
 def lines_of_mail(comparison: Comparison, judged: Judged | None, notes: Sequence[str]) -> list[str]:
@@ -241,40 +250,42 @@ class Compared(NamedTuple):
     notes: Sequence[str] = ()
 
 
-def compared(request: MailRequest) -> Compared:
+def compared(job: MailJob) -> Compared:
     """Compares, and puts the mail together."""
     mail: list[bytes] = []
     try:
-        before = columns_before(request)
-        if request.fault:
-            raise request.fault
-        row = Row(mail.extend, partial(message_of, request, before), of_failure=True)
-        ended = ComparisonJob(request, after=[row]).carry_out()
+        before = columns_before(job)
+        if job.fault:
+            raise job.fault
+        work = work_request(job.request, job.defaults)
+        row = Row(mail.extend, partial(message_of, job, before), of_failure=True)
+        ended = ComparisonJob(job.request, work, after=[row]).carry_out()
         state = ended.state()
         news = subject_of(state) if state.status else "no difference"
-        return Compared(state, news, b"".join(mail), notes_of(request, ended))
+        return Compared(state, news, b"".join(mail), notes_of(job, ended))
     except Exception as error:
-        keep_failure(request.state, error)
+        keep_failure(job.request.state, error)
         state = failed_state(error)
         news = f"aide on {host_name()}: failure (status {state.status})"
         if mail:  # About the first cause.
             say(why_of(error))
             return Compared(state, news, b"".join(mail))
         fault = fault_of(error)
-        return Compared(state, news, failure_message(request, fault), failure_notes(request, fault))
+        return Compared(state, news, failure_message(job, fault), failure_notes(job, fault))
 
 
-def columns_before(request: MailRequest) -> Sequence[str] | None:
+def columns_before(job: MailJob) -> Sequence[str] | None:
     """The columns that the last run is known not to have compared; None if no state is asked."""
-    if request.fault or not request.state:
+    if job.fault or not job.request.state:
         return None
     with suppress(Fault):
-        return read_state(request.state).skipped
+        return read_state(job.request.state).skipped
     return []
 
 
-def compare_and_mail(request: MailRequest) -> int:
-    state, news, message, notes = compared(request)
+def compare_and_mail(job: MailJob) -> int:
+    request = job.request
+    state, news, message, notes = compared(job)
     if state.status == Status.USAGE:  # Who has typed it sees it at once.
         with suppress(OSError):
             write_all(2, encoded("".join(f"{note}\n" for note in notes)))
@@ -319,7 +330,8 @@ def empty_queue(request: MailRequest, directory: str) -> int:
 
 
 def main(arguments: Sequence[str]) -> int:
-    request = request_of(arguments)
+    job = job_of(arguments)
+    request = job.request
     if request.user:
         give_up(request.user)
     else:
@@ -330,4 +342,4 @@ def main(arguments: Sequence[str]) -> int:
         way = transport_for("a test", request.seconds, request.queue)
         deliver(way, short_mail(request, "test", TEST_TEXT))
         return Status.OK
-    return compare_and_mail(request)
+    return compare_and_mail(job)

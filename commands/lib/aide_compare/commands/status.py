@@ -5,6 +5,7 @@ from __future__ import annotations
 import os
 from collections.abc import Sequence
 
+from aide_compare import VERSION
 from aide_compare.base.ending import (
     DeviceFault,
     Done,
@@ -32,7 +33,7 @@ from aide_compare.base.options import (
     field,
     option,
 )
-from aide_compare.base.parser import Help, defaults_for, read
+from aide_compare.base.parser import Help, Values, read, read_defaults
 from aide_compare.base.words import SEVERITIES, capitalized, minute_of
 from aide_compare.compare.state import DAILY, State, read_state
 from aide_compare.show.check import Answer, Level, answer_of
@@ -99,7 +100,6 @@ class StatusRequest(Asked):
             STDOUT,
         )
     )
-    is_daily: bool  # The state is that of the job of each day.
 
 
 def database_line(side: str, name: str, written: int | None) -> str:
@@ -140,9 +140,9 @@ def paragraph(state: State, max_age: int) -> list[str]:
     return lines + command_lines(state)
 
 
-def mail_lines(request: StatusRequest) -> list[str]:
+def mail_lines(request: StatusRequest, defaults: Values) -> list[str]:
     """What keeps the mails of the daily job from whoever reads them."""
-    if not request.is_daily:
+    if request.state != defaults.get(STATE.attribute, DAILY):
         return []
     from aide_compare.mail.waiting import troubles
 
@@ -151,7 +151,7 @@ def mail_lines(request: StatusRequest) -> list[str]:
     return ["", *(f"Mails: {line}" for line in found)] if found else []
 
 
-def write_text(request: StatusRequest) -> int:
+def write_text(request: StatusRequest, defaults: Values) -> int:
     """What people read. Without a state it says how to get one."""
     if is_missing(request.state):
         text = f"no comparison is known: there is no {shown(request.state)}"
@@ -161,12 +161,12 @@ def write_text(request: StatusRequest) -> int:
     is_young = state.age is not None and not state.is_older(request.max_age)
     if request.is_quiet and state.told_status == 0 and is_young and not late_text(state):
         return Status.OK
-    lines = [*paragraph(state, request.max_age), *mail_lines(request)]
+    lines = [*paragraph(state, request.max_age), *mail_lines(request, defaults)]
     tell(*(guarded(line)[:MAX_LINE] for line in lines))
     return Status.OK
 
 
-def write_json(request: StatusRequest) -> int:
+def write_json(request: StatusRequest, _defaults: Values) -> int:
     """The object of the state file. What is not known is null."""
     write_blocks(1, [read_state(request.state).text()])
     return Status.OK
@@ -196,7 +196,7 @@ def metrics_of(state: State) -> str:
     return "".join(lines)
 
 
-def write_metrics(request: StatusRequest) -> int:
+def write_metrics(request: StatusRequest, _defaults: Values) -> int:
     text = metrics_of(read_state(request.state)).encode()
     if request.output == STDOUT:
         write_blocks(1, [text])
@@ -206,7 +206,7 @@ def write_metrics(request: StatusRequest) -> int:
     return Status.OK
 
 
-def write_check(request: StatusRequest) -> int:
+def write_check(request: StatusRequest, _defaults: Values) -> int:
     answer = answer_of(request.state, request.max_age, request.warning, request.critical)
     tell(answer.line())
     return answer.level
@@ -220,8 +220,7 @@ WRITERS = {
 }
 
 
-def request_of(arguments: Sequence[str]) -> StatusRequest:
-    defaults = defaults_for(CHECK_DEFAULTS, arguments)
+def request_of(arguments: Sequence[str], defaults: Values) -> StatusRequest:
     request = read(StatusRequest, arguments, HELP, defaults)
     is_conditional = request.is_quiet or request.max_age != RESULT_AGE.default
     if is_conditional and request.format not in ("text", "nagios"):
@@ -231,18 +230,22 @@ def request_of(arguments: Sequence[str]) -> StatusRequest:
             raise usage_fault("only --format prometheus has an OUTPUT")
         if os.path.realpath(request.output) == os.path.realpath(request.state):
             raise usage_fault("OUTPUT is the state file")
-    return request.but(is_daily=request.state == defaults.get(STATE.attribute, DAILY))
+    return request
 
 
 def main(arguments: Sequence[str]) -> int:
-    request = request_of(arguments)
-    return WRITERS[request.format](request)
+    defaults = read_defaults(arguments).values(CHECK_DEFAULTS)
+    request = request_of(arguments, defaults)
+    return WRITERS[request.format](request, defaults)
 
 
 def check(arguments: Sequence[str]) -> int:
     """check_aide_compare: the format of Nagios. Every failure is UNKNOWN, since 1 and 2 say what
     was found."""
     try:
+        if "--version" in arguments:
+            tell(f"aide-compare {VERSION}")
+            return Level.UNKNOWN
         return main(["--format", "nagios", *arguments])
     except Done:
         return Level.UNKNOWN

@@ -24,7 +24,7 @@ from aide_compare.compare.configuration import NONE, configuration_in
 from aide_compare.compare.exclusions import Exclusions
 from aide_compare.compare.state import State, read_state
 from aide_compare.compare.unpack import Copy, copy_database
-from aide_compare.hosts.host_comparison import HostsRequest
+from aide_compare.hosts.host_comparison import HostsRun
 from aide_compare.hosts.hosts_read import host_of, read_changes
 from aide_compare.hosts.report_values import WHOLE, Host
 from aide_compare.hosts.store import BASELINE, MAX_BASELINE, NEW_FILE, PREVIOUS, HostDirectory
@@ -101,11 +101,11 @@ def listed_pair(directory: HostDirectory, rules: str) -> Pair | None:
     return None
 
 
-def trusted_pair(host: str, request: HostsRequest) -> Mapping[str, Copy]:
+def trusted_pair(host: str, run: HostsRun) -> Mapping[str, Copy]:
     """The databases of a canary that was compared just now, beside which the other hosts are
     compared."""
-    rules = rules_of(request.exclusions, request.configuration)
-    with closing(HostDirectory(request.store, host, request.seconds)) as directory:
+    rules = rules_of(run.exclusions, run.request.configuration)
+    with closing(HostDirectory(run.request.store, host, run.request.seconds)) as directory:
         state = read_state(directory.state_path)
         pair = Pair(state.old_sha256, state.new_sha256, rules)
         if refuse_cut(directory, state):

@@ -6,8 +6,9 @@ import os
 import time
 from collections.abc import Mapping, Sequence
 from contextlib import closing
+from typing import NamedTuple
 
-from aide_compare.base.ending import DeviceFault, Fault, Status
+from aide_compare.base.ending import DeviceFault, Status, fault_of
 from aide_compare.base.escapes import encoded
 from aide_compare.base.kinds import duration, matching
 from aide_compare.base.options import (
@@ -25,7 +26,7 @@ from aide_compare.base.options import (
 from aide_compare.base.replacement import NewFile, replace
 from aide_compare.base.words import age_in_words
 from aide_compare.compare import work
-from aide_compare.compare.comparison import Comparison, ComparisonInput
+from aide_compare.compare.comparison import NO_COPIES, Comparison, ComparisonInput
 from aide_compare.compare.configuration import NONE
 from aide_compare.compare.exclusions import Exclusions
 from aide_compare.compare.state import State
@@ -48,7 +49,7 @@ SAME_FOR = 50 * 3600
 
 
 class HostsRequest(HostsAsked):
-    """What the options of `hosts compare` ask for, and what is beside them."""
+    """What the options of `hosts compare` ask for."""
 
     is_quiet: bool = field(
         QUIET,
@@ -85,25 +86,31 @@ class HostsRequest(HostsAsked):
         default=SAME_FOR,
     )
     hosts_file: str = field(HOSTS_OPERAND)
+
+
+class HostsRun(NamedTuple):
+    """What all hosts of a run are compared by."""
+
+    request: HostsRequest
     exclusions: Exclusions | None
-    trusted: Mapping[str, Copy]  # The pair of the canary, if there is one.
     max_kept: int  # Of the lines of a host.
+    trusted: Mapping[str, Copy] = NO_COPIES  # The pair of the canary, if there is one.
 
 
-def run_comparison(directory: HostDirectory, request: HostsRequest, part: NewFile) -> Comparison:
+def run_comparison(directory: HostDirectory, run: HostsRun, part: NewFile) -> Comparison:
     """The Comparison, with its lines in the part. What ended it is a Fault."""
     old = copy_database("old", directory.file(BASELINE), MAX_BASELINE)
-    max_size = request.max_size or max(GROWTH * old.size, MIN_SIZE)
+    max_size = run.request.max_size or max(GROWTH * old.size, MIN_SIZE)
     new = copy_database("new", directory.file(NEW_FILE), max_size)
     comparison = work.compare(
         ComparisonInput(
             old=directory.file(BASELINE),
             new=directory.file(NEW_FILE),
-            configuration=request.configuration or NONE,
-            copies={"old": old, "new": new, **request.trusted},
-            exclusions=request.exclusions,
+            configuration=run.request.configuration or NONE,
+            copies={"old": old, "new": new, **run.trusted},
+            exclusions=run.exclusions,
             target=part.fd,
-            max_report=min(MAX_JUDGED, directory.room(request.jobs) // 2),
+            max_report=min(MAX_JUDGED, directory.room(run.request.jobs) // 2),
         )
     )
     if comparison.fault:
@@ -111,10 +118,10 @@ def run_comparison(directory: HostDirectory, request: HostsRequest, part: NewFil
     return comparison
 
 
-def keep_findings(directory: HostDirectory, request: HostsRequest, comparison: Comparison) -> None:
+def keep_findings(directory: HostDirectory, run: HostsRun, comparison: Comparison) -> None:
     """Keeps the changes that are not silent. The comparison gets their standings."""
     with closing(NewFile(directory.fd)) as part:
-        limit = min(request.max_kept, directory.room(request.jobs))
+        limit = min(run.max_kept, directory.room(run.request.jobs))
         comparison.standings = write_kept(part.fd, comparison, limit)
         if comparison.standings:
             part.put(LINES)
@@ -122,17 +129,17 @@ def keep_findings(directory: HostDirectory, request: HostsRequest, comparison: C
             comparison.doubts.append("the changes are too many to be judged")
 
 
-def age_fault(directory: HostDirectory, request: HostsRequest) -> str:
+def age_fault(directory: HostDirectory, run: HostsRun) -> str:
     """Why what was fetched is not the database of today; "" if it is."""
     cause = directory.fetch_cause()
     if cause:
         return f"it was not fetched the last time: {cause}"
     age = time.time() - os.stat(NEW_FILE, dir_fd=directory.fd).st_mtime
-    if not request.same_for or -MAX_AHEAD <= age <= request.same_for:
+    if not run.request.same_for or -MAX_AHEAD <= age <= run.request.same_for:
         return ""
     if age < 0:
         return "its database was fetched in the future; is the clock of this host right?"
-    limit = age_in_words(request.same_for)
+    limit = age_in_words(run.request.same_for)
     return f"has sent no new database for more than {limit}; does AIDE run there?"
 
 
@@ -147,7 +154,7 @@ def as_not_compared(directory: HostDirectory, state: State, why: str) -> State:
     )
 
 
-def keep_comparison(directory: HostDirectory, request: HostsRequest) -> State:
+def keep_comparison(directory: HostDirectory, run: HostsRun) -> State:
     """Compares, keeps lines and errors, and returns the State."""
     if not directory.has(NEW_FILE):
         cause = directory.fetch_cause() or "see aide-compare hosts compare --help"
@@ -155,13 +162,13 @@ def keep_comparison(directory: HostDirectory, request: HostsRequest) -> State:
     if not directory.has(BASELINE):
         raise DeviceFault("there is no baseline yet; see aide-compare hosts add --help")
     with closing(NewFile(directory.fd)) as part:
-        comparison = run_comparison(directory, request, part)
+        comparison = run_comparison(directory, run, part)
         directory.remove(LINES)
         if comparison.differs:
-            keep_findings(directory, request, comparison)
+            keep_findings(directory, run, comparison)
     state = comparison.state()
     errors = told_of(comparison)
-    why = age_fault(directory, request)
+    why = age_fault(directory, run)
     if why:
         state = as_not_compared(directory, state, why)
         errors += f"{state.error}\n"
@@ -169,18 +176,19 @@ def keep_comparison(directory: HostDirectory, request: HostsRequest) -> State:
     return state
 
 
-def compare(directory: HostDirectory, request: HostsRequest) -> State:
+def compare(directory: HostDirectory, run: HostsRun) -> State:
     """Compares, and keeps lines, errors and the state, which says so too if that fails. The program
     ends with this process."""
     try:
-        state = keep_comparison(directory, request)
+        state = keep_comparison(directory, run)
         replace(directory.state_path, state.text(), what="the state")
         return state
     except OSError as error:
         fault = directory.fault(f"cannot keep its lines: {write_cause(error)}")
     except MemoryError:
         fault = directory.fault("what it sent needs too much memory", Status.MEMORY)
-    except Fault as error:
-        fault = directory.fault(error.text, error.status)
+    except Exception as error:
+        cause = fault_of(error)
+        fault = directory.fault(cause.text, cause.status)
     directory.not_compared(fault.text, fault.status)
     raise fault

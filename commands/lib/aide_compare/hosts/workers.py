@@ -17,7 +17,7 @@ from aide_compare.base.ending import Fault, Status, fault_of, write_all
 from aide_compare.base.escapes import guarded, shown
 from aide_compare.base.processes import limit_memory, start_child
 from aide_compare.hosts.fetching import fetch_watched
-from aide_compare.hosts.host_comparison import HostsRequest, compare
+from aide_compare.hosts.host_comparison import HostsRun, compare
 from aide_compare.hosts.hosts_read import words_of
 from aide_compare.hosts.store import MAX_MEMORY, HostDirectory
 
@@ -44,12 +44,12 @@ def without_name(host: str, text: str) -> str:
     return text.removeprefix(f"{host}: ")
 
 
-def compare_host(host: str, request: HostsRequest) -> HostResult:
+def compare_host(host: str, run: HostsRun) -> HostResult:
     """Fetches and compares one host."""
-    directory = HostDirectory(request.store, host, request.seconds)
-    if not request.no_fetch:
-        fetch_watched(directory, request.jobs)
-    state = compare(directory, request)
+    directory = HostDirectory(run.request.store, host, run.request.seconds)
+    if not run.request.no_fetch:
+        fetch_watched(directory, run.request.jobs)
+    state = compare(directory, run)
     if state.status > 7:
         return HostResult(host, state.status, without_name(host, state.error))
     return HostResult(host, state.told_status, words_of(state), state.status > 0)
@@ -59,10 +59,10 @@ class Worker:
     """The process of one host, which the kernel ends if this one ends, and the pipe of its
     answer."""
 
-    def __init__(self, host: str, request: HostsRequest) -> None:
+    def __init__(self, host: str, run: HostsRun) -> None:
         self.host = host
-        self.request = request
-        self.deadline = time.monotonic() + request.seconds + GRACE
+        self.run = run
+        self.deadline = time.monotonic() + run.request.seconds + GRACE
         self.is_late = False
         self.fd, writing = os.pipe()
         self.child = start_child(partial(self._write_result, writing))
@@ -72,8 +72,8 @@ class Worker:
         """The work of the process."""
         limit_memory(MAX_MEMORY)
         try:
-            result = compare_host(self.host, self.request)
-        except (Fault, OSError, MemoryError) as error:
+            result = compare_host(self.host, self.run)
+        except Exception as error:
             fault = fault_of(error)
             text = without_name(self.host, fault.text)
             result = HostResult(self.host, fault.status, text)
@@ -91,21 +91,21 @@ class Worker:
             return HostResult(self.host, *json.loads(answer))
         text = f"ended without an answer ({ended})"
         if self.is_late:
-            text = f"was not compared within {self.request.seconds} seconds"
+            text = f"was not compared within {self.run.request.seconds} seconds"
         # The state says so. Another run may have the lock by now, and writes a state of its own.
         with suppress(Fault, OSError):
-            with closing(HostDirectory(self.request.store, self.host, PAUSE)) as directory:
+            with closing(HostDirectory(self.run.request.store, self.host, PAUSE)) as directory:
                 directory.not_compared(f"{self.host}: {text}")
         return HostResult(self.host, Status.DEVICE, text)
 
 
-def results(hosts: Sequence[str], request: HostsRequest) -> Iterator[HostResult]:
+def results(hosts: Sequence[str], run: HostsRun) -> Iterator[HostResult]:
     """The results of all hosts as they end, so many at a time."""
     waiting = list(reversed(hosts))
     workers: dict[int, Worker] = {}
     while waiting or workers:
-        while waiting and len(workers) < request.jobs:
-            worker = Worker(waiting.pop(), request)
+        while waiting and len(workers) < run.request.jobs:
+            worker = Worker(waiting.pop(), run)
             workers[worker.fd] = worker
         left = min(worker.deadline for worker in workers.values()) - time.monotonic()
         for descriptor in select.select(list(workers), [], [], max(left, PAUSE))[0]:

@@ -8,7 +8,7 @@ from contextlib import suppress
 from aide_compare.base.directories import names_in, open_directory
 from aide_compare.base.ending import Fault
 from aide_compare.base.escapes import shown
-from aide_compare.base.parser import MAY_BE_DEFAULTS, defaults_for
+from aide_compare.base.parser import MAY_BE_DEFAULTS, read_defaults
 from aide_compare.base.words import counted
 from aide_compare.mail.sending import MAIL, find_mailer
 
@@ -27,6 +27,6 @@ def troubles(queue: str) -> Iterator[str]:
     except Fault as fault:
         yield fault.text
     try:
-        defaults_for(MAY_BE_DEFAULTS.values(), ())
+        read_defaults(()).values(MAY_BE_DEFAULTS.values())
     except Fault as fault:
         yield fault.text

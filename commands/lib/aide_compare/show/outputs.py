@@ -46,4 +46,6 @@ PAGE = Option(
     "FILE",
     is_single=True,
 )
-OUTPUTS = (OutputRow(JSON, json_lines), OutputRow(PAGE, page))
+JSON_ROW = OutputRow(JSON, json_lines)
+PAGE_ROW = OutputRow(PAGE, page)
+OUTPUTS = (JSON_ROW, PAGE_ROW)

@@ -1,0 +1,174 @@
+"""A comparison that is carried out, with its outputs and its state file."""
+from __future__ import annotations
+
+import os
+from collections.abc import Iterable, Sequence
+from contextlib import suppress
+from typing import TYPE_CHECKING
+
+from aide_compare.base.ending import Fault, fault_of, write_blocks
+from aide_compare.base.files import blocks_of, nameless, private_place
+from aide_compare.base.program import is_for_looking
+from aide_compare.base.replacement import ANYBODY_READS, remove, replace
+from aide_compare.base.rights import become_owner
+from aide_compare.commands.compare_request import CompareRequest
+from aide_compare.compare.comparison import Comparison, ComparisonInput
+from aide_compare.compare.outputs import Output, descriptor_of, file_output, open_output
+from aide_compare.compare.state import failed_state, read_state
+from aide_compare.compare.unpack import Opened
+from aide_compare.compare.work import compare_opened, open_databases
+from aide_compare.lines.change import Counts
+
+if TYPE_CHECKING:
+    from aide_compare.changes.judged import Judged
+    from aide_compare.show.outputs import Maker
+
+
+def keep_failure(path: str | None, error: Exception) -> None:
+    """Writes into the state file that a run has failed, as by a fault in the defaults: otherwise
+    the result of an earlier run would look like that of today. If it cannot be made or written, as
+    on a full disk, it is removed."""
+    if path is None or is_for_looking():
+        return
+    with suppress(Fault, OSError):
+        if os.path.lexists(path):
+            read_state(path)  # What is no state stays, such as a database or a device.
+        become_owner(path)
+        try:
+            text = failed_state(error).text()
+            replace(path, text, ANYBODY_READS, "the state file", makes_directory=False)
+        except Exception:
+            remove(path)
+
+
+class Row:
+    """An output: its place, which is open before anything is compared, and what makes its bytes.
+    These are made before any place gets its own. An output `of_failure` is made anew after a
+    failure: its few bytes are in memory, so that it needs no disk and no descriptor."""
+
+    def __init__(self, place: Output, make: Maker, of_failure: bool = False) -> None:
+        self.place = place
+        self.make = make
+        self.of_failure = of_failure
+        self.blocks: Iterable[bytes] = ()
+        self.is_put = False  # Its place has bytes, or has refused them.
+
+    def write(self, comparison: Comparison, judged: Judged | None) -> None:
+        """Makes the bytes."""
+        blocks = self.make(comparison, judged)
+        if self.of_failure:
+            self.blocks = [b"".join(blocks)]
+        else:
+            target = nameless()
+            write_blocks(target, blocks, f"cannot keep an output in {private_place()}")
+            self.blocks = blocks_of(target)
+
+    def put(self) -> None:
+        """Hands the bytes to the place."""
+        self.is_put = True
+        self.place(self.blocks)
+
+
+def output_rows(request: CompareRequest) -> list[Row]:
+    """The outputs that options name, with their places open."""
+    return [
+        Row(open_output(path, f"the output of {row.option.name}"), row.make)
+        for row, path in request.outputs
+    ]
+
+
+def state_bytes(comparison: Comparison, _judged: Judged | None) -> Sequence[bytes]:
+    return [comparison.state().text()]
+
+
+class ComparisonJob:
+    """A comparison that is carried out, and its outputs. `judges`: one of these needs its changes
+    with their standings."""
+
+    def __init__(
+        self,
+        request: CompareRequest,
+        work: ComparisonInput,
+        before: Sequence[Row] = (),
+        after: Sequence[Row] = (),
+        judges: bool = True,
+    ) -> None:
+        self.judges = judges
+        self.options = request
+        self.request = work
+        self.before = before
+        self.after = after
+        self.rows: Sequence[Row] = ()
+        self.judged: Judged | None = None
+
+    def carry_out(self) -> Comparison:
+        """Compares, judges, and writes what is wanted. Root opens the databases, and then becomes
+        for good the user in whose directories the baseline and the outputs are."""
+        comparison = Comparison(self.request)
+        opened: Sequence[Opened] = ()
+        try:
+            opened = open_databases(comparison)
+        except Exception as error:
+            comparison.fail(error)
+        self._open_outputs(comparison)
+        if not comparison.has_failed:
+            compare_opened(comparison, opened)
+        try:
+            if not comparison.has_failed:
+                self._write(comparison)
+        except Exception as error:
+            comparison.fail(error)
+        if comparison.has_failed:
+            self._write_failure(comparison)
+        return comparison
+
+    def _open_outputs(self, comparison: Comparison) -> None:
+        """Opens the places of the outputs, as the user in whose directories they and the baseline
+        are may write them. Of two failures the first one is kept, and both are told."""
+        state_file = None
+        try:
+            if not self.options.user:
+                files = [path for path in self.options.paths if descriptor_of(path) is None]
+                become_owner(self.request.old, *files)
+            if self.options.state:
+                state_file = file_output(self.options.state, "the state file", ANYBODY_READS)
+            rows = [*self.before, *output_rows(self.options)]
+        except Fault as fault:
+            reason = comparison.fault or fault
+            keep_failure(self.options.state, reason)
+            if reason is not fault:
+                reason.more += (fault.text,)
+            raise reason
+        if state_file:
+            rows.append(Row(state_file, state_bytes, of_failure=True))
+        self.rows = [*rows, *self.after]
+
+    def _write(self, comparison: Comparison) -> None:
+        """Judges a comparison, makes all outputs, and then hands them to their places in their
+        order."""
+        if self.judges and comparison.status == 0:
+            comparison.standings = Counts()
+        elif self.judges and comparison.differs:
+            # The modules for it are more than all others together.
+            from aide_compare.show.judgement import judge
+
+            self.judged = judge(comparison)
+        for row in self.rows:
+            row.write(comparison, self.judged)
+        for row in self.rows:
+            row.put()
+
+    def _write_failure(self, comparison: Comparison) -> None:
+        """Each place of a failure gets the cause, whatever becomes of the others."""
+        failed: Exception | None = None
+        for row in self.rows:
+            if row.of_failure:
+                try:
+                    row.write(comparison, self.judged)
+                    row.put()
+                except Exception as error:
+                    failed = failed or error
+        if failed:
+            keep_failure(self.options.state, failed)
+            if not comparison.fault or comparison.fault.text != fault_of(failed).text:
+                raise failed
