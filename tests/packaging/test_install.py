@@ -32,7 +32,7 @@ MADE = {
     "share/zsh/site-functions/_aide-compare": 0o644,
     "share/fish/vendor_completions.d/aide-compare.fish": 0o644,
 }
-FOR_USERS = ("DIFFERENCES.md", "GUIDE.md", "HOSTS.md", "LIMITS.md", "PROVED.md")
+FOR_USERS = ("GUIDE.md", "HOSTS.md", "LIMITS.md", "PROVED.md")
 
 
 def target_of(path: str) -> str | None:

@@ -1,4 +1,4 @@
-"""Tries what docs/DIFFERENCES.md says of AIDE, on AIDE itself and on the built program.
+"""Tries what aide-compare-program(8) says of AIDE, on AIDE itself and on the built program.
 
 Each case is one configuration and one pair of databases, given to both programs. If AIDE is not
 installed, the tool says so and tries nothing. Prints each case whose answer is not the one that the
@@ -169,7 +169,7 @@ def main() -> int:
     trial = Trial(args.program)
     version = trial.run(AIDE, ["--version"]).output_text.split("\n")[0]
     is_described = version.startswith("AIDE 0.18.")
-    print(version, "" if is_described else "(docs/DIFFERENCES.md describes 0.18.3)")
+    print(version, "" if is_described else "(the manual page describes 0.18.3)")
     try:
         for case in CASES:
             trial.case(case)

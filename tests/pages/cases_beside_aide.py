@@ -1,4 +1,4 @@
-"""What docs/DIFFERENCES.md says of AIDE, as cases: a configuration and two databases, which
+"""What aide-compare-program(8) says of AIDE, as cases: a configuration and two databases, which
 tests/pages/beside_aide.py gives to AIDE and to the program."""
 from __future__ import annotations
 

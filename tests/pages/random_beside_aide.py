@@ -4,8 +4,8 @@ files.
 AIDE reads a tree of files, random operations change the tree, and AIDE reads it again. Then both
 programs compare the two databases, by random report options. Each entry is looked at: in which list
 it is, its summary string, and the names of its details. A difference passes only if
-docs/DIFFERENCES.md lists it. Each kind is counted. Prints what is not listed and, at the end, `N
-passed, M failed`. Needs AIDE and a file system with extended attributes; run by hand.
+aide-compare-program(8) lists it. Each kind is counted. Prints what is not listed and, at the end,
+`N passed, M failed`. Needs AIDE and a file system with extended attributes; run by hand.
 """
 from __future__ import annotations
 
@@ -145,7 +145,7 @@ class Trial(NamedTuple):
 def letter_is_told(
     slot: str, theirs: str, ours: str, ignored: set[str], trial: Trial
 ) -> str | None:
-    """Why a letter may differ, by docs/DIFFERENCES.md, or None."""
+    """Why a letter may differ, by aide-compare-program(8), or None."""
     if slot == "Y" and ours == "!":
         return "another type begins with !"
     if slot in "XEA" and ours in "+-:" and theirs in "XEA:.":
