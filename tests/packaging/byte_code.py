@@ -53,7 +53,7 @@ def holds_code(trial: InstallTest, name: str, folder: str, private: str) -> None
 
 
 def install(trial: InstallTest, name: str, source: str, prefix: str) -> None:
-    wide = ["sh", "-c", 'umask 0; exec "$@"', "sh", "sh"]
+    wide = ["sh", "-c", 'umask 0; exec "$@"', "sh"]
     done = trial.install("--prefix", prefix, "--program", trial.program, source=source, shell=wide)
     trial.assertTrue(done.status == 0 and done.error_text == "", ("install " + name, done))
     holds_code(

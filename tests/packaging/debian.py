@@ -1,4 +1,5 @@
-"""The Debian package as dpkg installs, removes and purges it, and what it tells its user."""
+"""The Debian package as dpkg installs, upgrades, removes and purges it on this machine, in a copy of
+its files, and what it tells its user."""
 from __future__ import annotations
 
 import os
@@ -6,7 +7,7 @@ import re
 import shutil
 
 from tests.lib.answer import Answer
-from tests.packaging import byte_code
+from tests.packaging.byte_code import tag
 from tests.packaging.installation import InstallTest, texts, tree
 
 TIMER = "aide-compare.timer"
@@ -24,13 +25,14 @@ NOTES = "var/lib/systemd/deb-systemd-helper-enabled/"
 BASELINE = "var/lib/aide-compare/hosts/www/aide.db"
 LIBRARY = "usr/lib/aide-compare/python"
 DAILY = "var/lib/aide-compare/daily/mail/waiting"
-
-# What dpkg is told of the packages that this one depends on.
-NEEDED = "".join(
-    "Package: %s\nStatus: install ok installed\nMaintainer: nobody\nArchitecture: amd64\n"
-    "Multi-Arch: %s\nVersion: %s\nDescription: needed\n\n" % row
-    for row in (("libc6", "same", "2.36-9"), ("python3", "allowed", "3.11.2-1"))
-)
+MASK = ("env", "DPKG_MAINTSCRIPT_PACKAGE=aide-compare", "deb-systemd-helper", "mask", TIMER)
+# Runs a command on a copy of this machine's files: what it writes stays in the directory UPPER.
+COPY = """
+mount -t overlay overlay -o "lowerdir=/,upperdir=$1,workdir=$2" "$3" || exit 99
+mount --bind /dev "$3/dev" && mount --bind /proc "$3/proc" || exit 99
+shift 2
+exec chroot "$@"
+"""
 
 
 def try_texts(trial: InstallTest, folder: str) -> None:
@@ -56,67 +58,75 @@ def try_texts(trial: InstallTest, folder: str) -> None:
 
 
 def try_stop(trial: InstallTest, folder: str) -> None:
-    """Before its files go, every unit is stopped: first the timer and what it starts, and then what
-    that starts. An upgrade stops nothing."""
+    """Before its files go, every unit is stopped: first the timer, then the comparison, and then
+    what that starts. An upgrade stops nothing."""
     machine, log = trial.path("machine"), trial.path("stopped")
     os.makedirs(machine)
     for name in ("deb-systemd-invoke", "deb-systemd-helper", "systemctl"):
         trial.stub(name, f'printf "%s\\n" "$*" >> "{log}"', "debian-stubs")
+    for name in ("py3clean", "dpkg"):
+        trial.stub(name, "", "debian-stubs")
     more = dict(os.environ, PATH=trial.path("debian-stubs") + ":" + os.environ["PATH"])
     more.pop("DPKG_ROOT", None)
     with open(os.path.join(folder, "DEBIAN", "prerm")) as file:
-        script = file.read()
-    for place in ("/run/systemd/system", "/usr/lib/aide-compare"):
-        script = script.replace(place, machine)
+        script = file.read().replace("/run/systemd/system", machine)
     trial.assertEqual(sorted(os.listdir(os.path.join(folder, "usr/lib/systemd/system"))), UNITS)
     done = trial.run_words(["sh", "-c", script, "prerm", "upgrade", "2"], env=more)
     trial.assertEqual((done, os.path.exists(log)), (Answer(b"", b"", 0), False))
     done = trial.run_words(["sh", "-c", script, "prerm", "remove"], env=more)
     trial.assertEqual(done, Answer(b"", b"", 0))
     with open(log) as file:
-        stopped = [line.split()[1:] for line in file if line.startswith("stop ")]
-    trial.assertEqual(sorted(stopped[0]), ["aide-compare.service", TIMER], "the comparison first")
-    trial.assertEqual(sorted(sum(stopped, [])), UNITS)
+        stopped = [word for line in file if line.startswith("stop ") for word in line.split()[1:]]
+    trial.assertEqual(stopped[:2], [TIMER, "aide-compare.service"], "the timer, the comparison")
+    trial.assertEqual(sorted(stopped), UNITS)
 
 
 class Machine:
-    """A root folder for dpkg. The scripts run with DPKG_ROOT, as they do when images are made."""
+    """This machine, whose files are never changed: what commands write is in a directory."""
 
     def __init__(self, trial: InstallTest, package: str) -> None:
-        self.trial, self.package, self.root = trial, package, trial.path("debian-root")
-        for name in ("info", "updates", "triggers"):
-            os.makedirs(os.path.join(self.root, "var/lib/dpkg", name))
-        trial.write("debian-root/var/lib/dpkg/status", NEEDED)
-        trial.write("debian-root/var/lib/dpkg/available", "")
+        self.trial, self.upper = trial, trial.path("upper")
+        for name in ("upper", "work", "root"):
+            os.makedirs(trial.path(name))
+        self.replace_package(package)
+
+    def replace_package(self, package: str) -> None:
+        shutil.copy(package, os.path.join(self.upper, "aide-compare.deb"))
+
+    def run(self, *words: str) -> Answer:
+        places = [self.upper, self.trial.path("work"), self.trial.path("root")]
+        done = self.trial.run_words(["unshare", "-m", "sh", "-c", COPY, "sh", *places, *words])
+        if done.status == 99:
+            self.trial.skipTest("nothing can be mounted here")
+        return done
 
     def dpkg(self, action: str, what: str) -> None:
-        forced = ["--log=/dev/null", "--force-script-chrootless", "--force-confold"]
-        done = self.trial.run_words(["dpkg", "--root=" + self.root, *forced, action, what])
+        done = self.run("dpkg", "--no-triggers", "--force-confold", action, what)
         self.trial.assertEqual(done.status, 0, done)
 
     def install(self) -> None:
-        self.dpkg("--install", self.package)
-
-    def helper(self, action: str) -> Answer:
-        more = dict(os.environ, DPKG_ROOT=self.root, DPKG_MAINTSCRIPT_PACKAGE="aide-compare")
-        return self.trial.run_words(["deb-systemd-helper", action, TIMER], env=more)
+        self.dpkg("--install", "/aide-compare.deb")
 
     def has(self, path: str) -> bool:
-        return os.path.lexists(os.path.join(self.root, path))
+        """Whether there is a file of the package or of the test. A removed one may be a device."""
+        whole = os.path.join(self.upper, path)
+        return os.path.lexists(whole) and (os.path.islink(whole) or os.stat(whole).st_rdev == 0)
 
     def write(self, path: str, text: str) -> None:
-        self.trial.write(os.path.join("debian-root", path), text)
+        self.trial.write(os.path.join("upper", path), text)
+
+    def remove(self, path: str) -> None:
+        self.trial.assertEqual(self.run("rm", "-r", "/" + path).status, 0, path)
 
     def enable(self, path: str = WANTED) -> None:
-        path = os.path.join(self.root, path)
-        os.makedirs(os.path.dirname(path), exist_ok=True)
-        os.symlink("/lib/systemd/system/" + TIMER, path)
+        done = self.run("ln", "-s", "/lib/systemd/system/" + TIMER, "/" + path)
+        self.trial.assertEqual(done.status, 0, done)
 
 
 def try_life(trial: InstallTest, package: str) -> None:
-    """An installation, two removals and a purge, by dpkg itself."""
+    """Installations, removals, upgrades and purges, by dpkg itself."""
     trial.needs_root()
-    trial.needs("dpkg", "deb-systemd-helper")
+    trial.needs("dpkg", "deb-systemd-helper", "py3compile", "unshare")
     machine = Machine(trial, package)
     machine.install()
     for path in ("usr/bin/aide-compare", "usr/share/doc/aide-compare/copyright"):
@@ -125,17 +135,13 @@ def try_life(trial: InstallTest, package: str) -> None:
     # Which link an administrator may make.
     trial.assertTrue(machine.has(NOTES + TIMER + ".dsh-also"), "an installation notes it")
     code(trial, machine)
-    # Each installation compiles the modules, so the package has one of them from here on.
-    small = f"rm -r {package}.tree/{LIBRARY}/*/*/ && dpkg-deb -Znone -b {package}.tree {package}"
-    trial.assertEqual(trial.run_words(["sh", "-c", small]).status, 0)
-    machine.install()
     again(trial, machine)
     kept(trial, machine)
     machine.dpkg("--purge", "aide-compare")
     for path in (WANTED, RULES, DAILY, "var/lib/aide-compare/daily", NOTES + TIMER + ".dsh-also"):
         trial.assertFalse(machine.has(path), "a purge removes " + path)
     trial.assertTrue(machine.has(BASELINE), "a purge leaves the baselines of hosts")
-    shutil.rmtree(os.path.join(machine.root, "var/lib/aide-compare/hosts"), ignore_errors=True)
+    machine.remove("var/lib/aide-compare/hosts")
     machine.install()
     for path in (DAILY, *MADE):
         machine.write(path, "text\n")
@@ -145,50 +151,35 @@ def try_life(trial: InstallTest, package: str) -> None:
 
 
 def code(trial: InstallTest, machine: Machine) -> None:
-    """Byte code is made at each installation and upgrade, also of Python, and none is left."""
-    folder = os.path.join(machine.root, LIBRARY)
-    former = LIBRARY + "/aide_compare/__pycache__/former.cpython-39.pyc"
-    for name in ("installed", "upgraded", "after an upgrade of Python"):
-        machine.write(former, "made by another version\n")
-        if name == "upgraded":
-            machine.install()
-        elif name != "installed":
-            place = "--admindir=" + os.path.join(machine.root, "var/lib/dpkg")
-            words = ["dpkg-trigger", place, "--by-package=python3-minimal", "/usr/bin/python3"]
-            done = trial.run_words(words)
-            trial.assertEqual(done.status, 0, ("dpkg-trigger", done))
-            machine.dpkg("--triggers-only", "aide-compare")
-        else:
-            os.remove(os.path.join(machine.root, former))
-        byte_code.holds_code(trial, name + " by dpkg", folder, machine.root)
-    machine.write(former, "made by another version\n")
+    """Byte code of each module is made at an installation and an upgrade, and none is left."""
+    folder = os.path.join(machine.upper, LIBRARY)
+    for name in ("installed", "upgraded"):
+        found = [path for path in tree(folder) if path.endswith(".py")]
+        made = [path for path in tree(folder) if path.endswith(f".{tag()}.pyc")]
+        trial.assertEqual(len(made), len(found), f"{name}: each module has byte code")
+        trial.assertGreater(len(found), 60, name)
+        machine.install()
     machine.dpkg("--remove", "aide-compare")
     trial.assertFalse(machine.has("usr/lib/aide-compare"), "a removal leaves no byte code")
 
 
 def again(trial: InstallTest, machine: Machine) -> None:
     """The timer is after a removal and an installation what it was before."""
+    machine.install()
     for is_on in (False, True, False):
         if is_on:
             machine.enable()
         elif machine.has(WANTED):
-            os.remove(os.path.join(machine.root, WANTED))
+            machine.remove(WANTED)
         # Older tools of Debian mask a unit when its package goes, so that systemd does not miss it.
-        done = machine.helper("mask")
+        done = machine.run(*MASK)
         trial.assertTrue(machine.has("etc/systemd/system/" + TIMER), ("the timer is masked", done))
         machine.dpkg("--remove", "aide-compare")
         trial.assertFalse(machine.has("usr/bin/aide-compare"), "a removal removes the program")
         machine.install()
         trial.assertFalse(machine.has("etc/systemd/system/" + TIMER), "the timer is not masked")
         trial.assertEqual(machine.has(WANTED), is_on, "the timer is as it was")
-    # A former version was wanted by another target, and was on.
-    former = "multi-user.target.wants/" + TIMER
-    shutil.rmtree(os.path.join(machine.root, NOTES), ignore_errors=True)
-    machine.write(NOTES + TIMER + ".dsh-also", "/etc/systemd/system/%s\n" % former)
-    machine.write(NOTES + former, "")
-    machine.enable("etc/systemd/system/" + former)
-    machine.install()
-    trial.assertTrue(machine.has(WANTED), "the timer stays on when another target wants it")
+    machine.enable()
 
 
 def kept(trial: InstallTest, machine: Machine) -> None:
@@ -200,5 +191,5 @@ def kept(trial: InstallTest, machine: Machine) -> None:
     for path in (RULES, DAILY, BASELINE, WANTED):
         trial.assertTrue(machine.has(path), "a removal leaves " + path)
     machine.install()
-    with open(os.path.join(machine.root, RULES)) as file:
+    with open(os.path.join(machine.upper, RULES)) as file:
         trial.assertEqual(file.read(), "# mine\n", "the administrator's rules for AIDE stay")

@@ -15,15 +15,16 @@ from tests.lib.programs import find_program, lines_program_of
 from tests.lib.scratch import TOP, Scratch, read
 
 PARTS = [
-    *("commands/bin commands/lib commands/share contrib docs examples/small_tree man".split()),
-    *("packaging README.md CHANGELOG.md SECURITY.md VERSION".split()),
+    *(
+        "commands/bin commands/lib commands/share contrib debian docs examples/small_tree man".split()
+    ),
+    *("packaging Makefile README.md CHANGELOG.md SECURITY.md VERSION".split()),
 ]
 PROGRAMS = ("libexec/aide-compare/aide", "libexec/aide-compare/aide_lines")
 NOBODY = 65534
-# What the scripts may need: the base system without a compiler, git, dpkg-deb or rt.
-NEEDED = """[ awk basename cat chmod cmp comm cp cut date dirname env find grep gzip head id
-install ln ls md5sum mkdir mktemp mv printf python3 readlink rm rmdir sed sh sha256sum sort tail tar
-touch tr uniq wc xargs""".split()
+# What the scripts may need: the base system and make, without a compiler, git or rt.
+NEEDED = """[ cat cp cut date dirname env find grep gzip head id ln ls make mkdir mv printf python3 rm
+rmdir sed sh sort tail tar touch tr""".split()
 
 
 class Sources(Scratch):
@@ -70,7 +71,7 @@ class Sources(Scratch):
         return source
 
     def make_plain_path(self) -> str:
-        """A folder for PATH with few programs: neither rt nor dpkg-deb is found through it."""
+        """A folder for PATH with few programs: rt is not found through it."""
         folder = self.path("programs")
         os.makedirs(folder)
         for name in filter(shutil.which, NEEDED):
@@ -99,7 +100,7 @@ class InstallTest(Sources, ScratchTest):
     def run_words(self, words: list[str], **more: Any) -> Answer:
         return run(words[0], words[1:], **more)
 
-    def install(self, *words: str, source: str = "", shell: Any = ("sh",), **more: Any) -> Answer:
+    def install(self, *words: str, source: str = "", shell: Any = (), **more: Any) -> Answer:
         """Runs packaging/install of a copy, in a folder that is not the repository."""
         script = os.path.join(source or self.source, "packaging", "install")
         return self.run_words([*shell, script, *words], cwd=self.root, **more)

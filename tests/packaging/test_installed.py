@@ -176,7 +176,7 @@ class InstalledTest(InstallTest):
             self.assertLessEqual(set(found), wanted, name)
 
     def test_unproved(self) -> None:
-        """The name of an unproved program marks each command's version; it is never packed."""
+        """The name of an unproved program marks each command's version."""
         program = self.copied_programs(self.program, "unproved programs", "aide-unproved")
         done = self.install("--destdir", self.path("unproved"), "--program", program)
         self.assertEqual(done.status, 0, done)
@@ -185,7 +185,3 @@ class InstalledTest(InstallTest):
         self.assertEqual((done.status, count), (0, 2), done)
         first = done.output_text.partition("\n")[0]
         self.assertEqual(first, f"aide-compare {self.version}, unproved")
-        script = os.path.join(self.source, "packaging", "make_package")
-        done = self.run_words(["sh", script, "--output", self.path("packed"), "--program", program])
-        self.assertEqual((done.status, "is not proved" in done.error_text), (1, True), done)
-        self.assertFalse(os.path.exists(self.path("packed")), "nothing is packed")

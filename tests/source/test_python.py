@@ -1,5 +1,4 @@
-"""How the Python here is written: mypy --strict, pyflakes and black find nothing to change in
-commands/, tests/, tools/ and bench/, and pyflakes nothing in packaging/."""
+"""How the Python here is written: mypy --strict, pyflakes and black find nothing to change."""
 from __future__ import annotations
 
 import shutil
@@ -10,6 +9,8 @@ from tests.lib.answer import run
 from tests.lib.scratch import TOP
 
 CHECKED = ("commands", "commands/bin/aide-compare", "tests", "tools", "bench")
+# A run of mypy takes one program of these: both have the name __main__.
+PROGRAMS = ("packaging/completions", "packaging/install")
 
 
 class Python(unittest.TestCase):
@@ -22,10 +23,11 @@ class Python(unittest.TestCase):
         self.assertEqual(answer.status, 0, answer.output_text)
 
     def test_types(self) -> None:
-        self.check(("mypy",), "--cache-dir=/dev/null", "--strict", *CHECKED)
+        for words in (CHECKED, *([program] for program in PROGRAMS)):
+            self.check(("mypy",), "--cache-dir=/dev/null", "--strict", *words)
 
     def test_names(self) -> None:
-        self.check(("pyflakes3", "pyflakes"), *CHECKED, "packaging/completions")
+        self.check(("pyflakes3", "pyflakes"), *CHECKED, *PROGRAMS)
 
     def test_layout(self) -> None:
-        self.check(("black",), "--check", "--quiet", *CHECKED)
+        self.check(("black",), "--check", "--quiet", *CHECKED, *PROGRAMS)

@@ -23,7 +23,7 @@ from tools.lib.arguments import parser_of
 
 # The check of the language Python, which reads all files of it and takes most of a minute.
 PYTHON = "tests.source.test_python"
-PYTHON_ENDS = (".py", "commands/bin/aide-compare", "packaging/completions")
+PYTHON_ENDS = (".py", "commands/bin/aide-compare", "packaging/completions", "packaging/install")
 # What compares the options of the commands with the manual.
 OPTIONS_IN_MANUAL = "tests.pages.test_blocks"
 # A change here that no test tries is a failure. What else has no test is a page or a tool.
