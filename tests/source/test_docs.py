@@ -56,6 +56,12 @@ def is_there(name: str, paths: list[str]) -> bool:
     return any(f"/{each}/" in f"/{path}/" for path in paths for each in names)
 
 
+def anchors_of(page: str) -> set[str]:
+    """What links to the headings of a page end with: small letters, `-` for blanks, no marks."""
+    headings = re.findall(r"^#+ (.*)$", re.sub(r"```.*?```", "", page, flags=re.S), re.M)
+    return {re.sub(r"[^\w -]", "", heading.lower()).replace(" ", "-") for heading in headings}
+
+
 def read_text(name: str) -> str:
     """The text of a file, and nothing for one that is no text."""
     try:
@@ -101,6 +107,13 @@ class Docs(unittest.TestCase):
             for target in re.findall(r"\]\(([^)#]+?)(?:#[^)]*)?\)", text):
                 path = os.path.join(TOP, os.path.dirname(page), target)
                 self.assertTrue("://" in target or os.path.exists(path), f"{page}: {target}")
+
+    def test_links_lead_to_headings(self) -> None:
+        for page, text in self.pages.items():
+            for target, heading in re.findall(r"\]\(([^)#:]*)#([^)]+)\)", text):
+                path = os.path.normpath(os.path.join(os.path.dirname(page), target))
+                there = self.pages[path if target else page]
+                self.assertIn(heading, anchors_of(there), f"{page}: {target}")
 
     def test_files_that_are_named_exist(self) -> None:
         """By their path or the end of it, without built files, and names with NAME in them."""
