@@ -21,7 +21,7 @@ from tests.lib.scratch import Scratch
 from tests.oracle.agreement import same_as
 from tests.oracle.database import database_of
 
-PROGRAMS = ("gpg", "gpgv", "dpkg-deb")
+PROGRAMS = ("gpg", "gpg-agent", "gpgv", "dpkg-deb")
 INFO = b"/var/lib/dpkg/info/"
 SUITE = "mirror/dists/stable"
 TOOL, LIBRARY = b"/usr/bin/tool", b"/usr/lib/multi/lib.so"
