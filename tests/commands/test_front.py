@@ -42,7 +42,7 @@ class FrontTest(CommandTest):
         told = b"nohost 18 nothing was fetched yet"
         self.answered(18, told, b"", *compare, "-", text=b"nohost\n")
         self.refused(18, b"no host is in ./x: aide-compare hosts add adds one", *compare, "./x")
-        one = b"there is no file www\naide-compare hosts compare: for one host: echo www | "
+        one = b"there is no file www, and no host of this name is watched\naide-compare hosts compare: "
         self.refused(18, one, *compare, "www")
 
     def test_help(self) -> None:
@@ -84,7 +84,11 @@ class FrontTest(CommandTest):
             ("-u", b"-u is a job of aide(1)\naide-compare: AIDE makes databases: aide --update"),
             ("-c x --init", b"--init is a job of aide(1)\n"),
             ("old.db", b"name both databases, OLD and NEW, or none, and not only old.db\n"),
-            ("hosts accept www", b"this prints: echo www | aide-compare hosts report -\n"),
+            (
+                "hosts accept www",
+                b"this prints: aide-compare hosts report www; on a terminal it asks\n",
+            ),
+            ("hosts accept", b"name a HOST, or give --silent for all whose changes are silent\n"),
             ("help bogus", b"there are: compare, show, json, page, mail, "),
             ("hosts fecth www", b"try: aide-compare hosts --help\n"),
             ("diff old.db new.db", b"there is no subcommand and no file diff\n"),

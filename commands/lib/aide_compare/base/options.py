@@ -222,7 +222,10 @@ HOST_TIME = Option(
 )
 HOSTS_FILE = "/etc/aide-compare/hosts"
 HOSTS_OPERAND = Operand(
-    "HOSTS-FILE", f"a name a line; - is standard input ({HOSTS_FILE})", "?", HOSTS_FILE
+    "HOSTS-FILE",
+    f"a name a line; - is standard input; or the name of one host ({HOSTS_FILE})",
+    "?",
+    HOSTS_FILE,
 )
 HOSTS_OPTION = Option(
     "--hosts-file",

@@ -21,9 +21,9 @@ from aide_compare.hosts.workers import HostResult, results, without_name
 
 HELP = Help(
     name="aide-compare hosts compare",
-    usage="%(prog)s [OPTIONS] [HOSTS-FILE]",
+    usage="%(prog)s [OPTIONS] [HOSTS-FILE | HOST]",
     description="""\
-Fetches and compares the databases of the hosts of HOSTS-FILE, one name a line. Prints a line for
+Fetches and compares the databases of the hosts of HOSTS-FILE, one name a line, or of HOST. Prints a line for
 each host as it ends: its name, its status and the counts. Then a summary.""",
     epilog="""\
 Status, the highest of all hosts: 0 nothing to read, 1 to 7 changes that are not
@@ -112,7 +112,7 @@ def run_of(arguments: Sequence[str]) -> HostsRun:
 def hosts_to_compare(request: HostsRequest) -> list[str]:
     """The hosts of the file. The canary has to be one of them: otherwise no report would list what
     is silent beside it."""
-    names = hosts_of(request.hosts_file)
+    names = hosts_of(request.hosts_file, request.store)
     if not request.canary:
         keep_note(request.store, "")
     elif request.canary not in names:

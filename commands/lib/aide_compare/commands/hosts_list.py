@@ -14,9 +14,9 @@ from aide_compare.hosts.report_values import Host
 
 HELP = Help(
     name="aide-compare hosts list",
-    usage="%(prog)s [OPTIONS] [HOSTS-FILE]",
+    usage="%(prog)s [OPTIONS] [HOSTS-FILE | HOST]",
     description="""\
-Prints a line for each host of HOSTS-FILE: its name, its last status, and what it says.""",
+Prints a line for each host of HOSTS-FILE, or for HOST: its name, its last status, and what it says.""",
     epilog="""\
 Status: 0 listed, whatever the lines say; 15 bad arguments; 18 HOSTS-FILE cannot be read, or names
 none.""",
@@ -39,6 +39,6 @@ def line_of(host: Host) -> str:
 
 def main(arguments: Sequence[str]) -> int:
     request = read(ListRequest, arguments, HELP)
-    for name in hosts_of(request.hosts_file):
+    for name in hosts_of(request.hosts_file, request.store):
         tell(line_of(read_host(name, request.store, request.seconds, request.max_age)))
     return Status.OK

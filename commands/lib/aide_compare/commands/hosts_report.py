@@ -31,7 +31,7 @@ from aide_compare.commands.mail import send_heartbeat
 from aide_compare.hosts.canary import notes_of
 from aide_compare.hosts.fleet import Fleet
 from aide_compare.hosts.hosts_page import page
-from aide_compare.hosts.hosts_file import hosts_of
+from aide_compare.hosts.hosts_file import hosts_of, is_name_of_host
 from aide_compare.hosts.hosts_read import read_host
 from aide_compare.hosts.hosts_text import Report, headline, report_lines, short_lines
 from aide_compare.hosts.report_values import CUT, UNREADABLE, HostCounts, Summary
@@ -41,9 +41,9 @@ from aide_compare.show.json_lines import line_of
 
 HELP = Help(
     name="aide-compare hosts report",
-    usage="%(prog)s [OPTIONS] [HOSTS-FILE]",
+    usage="%(prog)s [OPTIONS] [HOSTS-FILE | HOST]",
     description="""\
-Reports what differs on the hosts of HOSTS-FILE, as aide-compare hosts compare found it:
+Reports what differs on the hosts of HOSTS-FILE, or on HOST, as aide-compare hosts compare found it:
 which hosts were not compared, and each change once with the hosts that have it.""",
     epilog="""\
 Status, the highest of all hosts: 0 nothing to read, 1 to 7 changes that are not
@@ -90,7 +90,7 @@ def command_words(request: ReportRequest) -> list[str]:
     if not 0 < request.max_age <= MAX_RESULT_AGE:
         words += ["--max-age", str(request.max_age)]
     path = request.hosts_file
-    if path == "-":
+    if path == "-" or is_name_of_host(path):
         words.append(path)
     elif path != HOSTS_FILE:
         words.append(os.path.abspath(path))
@@ -193,7 +193,7 @@ def main(arguments: Sequence[str]) -> int:
     address = request.address
     message = b""
     try:
-        report = HostsReport(hosts_of(request.hosts_file), request)
+        report = HostsReport(hosts_of(request.hosts_file, request.store), request)
         if address and report.is_alarm:
             message = report.message(request, address)
     except Exception as error:

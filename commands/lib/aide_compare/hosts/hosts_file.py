@@ -15,14 +15,21 @@ from aide_compare.hosts.store import NAME
 WHAT = "the file of hosts"
 
 
-def hosts_of(path: str) -> list[str]:
-    """The names in a file, each once."""
+def is_name_of_host(path: str) -> bool:
+    """Whether it is a name, and no file in this directory."""
+    return bool(NAME.fullmatch(path)) and is_missing(path)
+
+
+def hosts_of(path: str, store: str) -> list[str]:
+    """The names in a file, each once, or the name itself of a host that is watched."""
     data = b""
+    if is_name_of_host(path):
+        if is_missing(f"{store}/hosts/{path}"):
+            text = f"there is no file {path}, and no host of this name is watched"
+            raise DeviceFault(text, "the hosts that are: aide-compare hosts list")
+        return [path]
     if path == "-":
         data = read_whole(0, MAX_TRUSTED_BYTES, WHAT)
-    elif is_missing(path) and NAME.fullmatch(path):
-        advice = f"for one host: echo {path} | aide-compare hosts .. -"
-        raise DeviceFault(f"there is no file {path}", advice)
     elif not is_missing(path):
         data = trusted_text(path, WHAT)
     lines = [line.strip() for line in data.decode("utf-8", "surrogateescape").split("\n")]
