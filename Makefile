@@ -18,7 +18,7 @@ all:
 
 # The tests that prove nothing and take no minutes. tools/test proves all crates and runs all tests.
 check: all
-	AIDE_PROGRAM='$(program)' tools/quick --all
+	env -u MAKEFLAGS -u PROGRAM AIDE_PROGRAM='$(program)' tools/quick --all
 
 install: all
 	packaging/install $(place) --program '$(program)'

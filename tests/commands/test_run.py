@@ -134,7 +134,7 @@ class RunTest(CommandTest):
         """The name of a database is shown and kept by its bytes, whatever the locale says of them."""
         words = ["localedef", "-i", "en_US", "-f", "ISO-8859-1", self.path("en_US.ISO-8859-1")]
         if not shutil.which("localedef") or subprocess.call(words, stderr=subprocess.DEVNULL):
-            self.skipTest("no locale can be made here")
+            self.skipTest("not installed: locales")
         self.write("d\u00e9.db", NEW)
         locale = {"LC_ALL": "en_US.ISO-8859-1", "LOCPATH": self.root}
         words = ["--state", "state", "old.db", "d\u00e9.db"]
