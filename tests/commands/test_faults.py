@@ -95,7 +95,7 @@ class FaultsTest(CommandTest):
             for new in ("new.db", "cut.db"):
                 fill()
                 self.refused(18, causes, "aide-compare -q", "old.db", new, "--state=small/state")
-                self.assertEqual(os.listdir(small), ["filler"], "no state of an older run")
+                self.assertNotIn("state", os.listdir(small), "no state of an older run")
                 causes = [b"no @@end_db", *causes]
             mail.prepare(self)
             fill()

@@ -142,16 +142,20 @@ class StatusTest(StateTest):
         self.ask("aide-compare", "--odd", "old.db", "new.db")
         self.assertEqual(self.read("state"), before, "a wrong command changes no state")
         self.write("etc/defaults", "--databases old.db new.db\n--state state\n")
-        self.refused(18, b"cannot open", "aide-compare", "--exclude-from", "none")
+        self.ask("aide-compare mail --queue queue", "--exclude-from", "none")
         self.assertEqual(self.state()["status"], "18", "a state that the defaults name")
         self.write("etc/defaults", "--odd\n--databases old.db new.db\n--trusted a\n--state state\n")
         named: list[list[str]] = [[], ["./old.db", "./new.db"]]
         for tool, names in itertools.product(tools, named):
             self.put()
+            before = self.read("state")
             self.expect(f"{tool} {names}", self.call(tool, *names), 15)
-            self.assertIn("line 1", self.state()["error"], "another line has a fault")
+            if tool == "aide-compare":
+                self.assertEqual(self.read("state"), before, "by hand it is the daily job's")
+            else:
+                self.assertIn("line 1", self.state()["error"], "another line has a fault")
         self.write("etc/defaults", "--databases old.db gone.db\n--state state\n")
-        self.refused(18, b"cannot open the new", "aide-compare", "./old.db", "./gone.db")
+        self.call("aide-compare mail --queue queue", "./old.db", "./gone.db")
         self.assertIn("the new database", self.state()["error"], "they name both")
         os.mkfifo(self.path("pipe"))
         self.refused(18, b"cannot write", "aide-compare", "old.db", "new.db", "--state=pipe")

@@ -66,4 +66,4 @@ class CheckTest(ModuleTest):
             self.assertEqual(told.call_args[0][0], cut)
         answer = check.Answer(check.Level.OK, "a <img src=x|y>", "n=1")
         self.assertEqual(answer.line(), "AIDE OK: a (img src=x!y>|n=1")
-        self.assertEqual(status_command.request_of(["--no-defaults"]).state, DAILY)
+        self.assertEqual(status_command.request_of(["--no-defaults"], {}).state, DAILY)

@@ -147,7 +147,7 @@ def compare_and_print(new: str, baseline: str, defaults: Defaults) -> State:
     """Compares as aide-compare does, with the same defaults and privileges, and prints what
     differs."""
     request = with_defaults(PrintRequest, {"databases": [baseline, new]}, defaults)
-    ended = Printer(request).job(work_request(request, defaults)).carry_out()
+    ended = Printer(request).job(work_request(request, defaults), False).carry_out()
     if ended.status > 7:
         raise Fault(ended.status, "nothing was compared, so nothing is accepted")
     return ended.state()

@@ -12,7 +12,7 @@ from aide_compare.base.ending import Fault, ReaderGone, write_blocks
 from aide_compare.base.escapes import encoded, shown
 from aide_compare.base.files import blocks_of
 from aide_compare.base.options import STATE, option
-from aide_compare.base.parser import Defaults, Help, Parser, filled, read_defaults
+from aide_compare.base.parser import Help, Parser, filled, read_defaults
 from aide_compare.base.program import NOTICE, is_for_looking, need_proof
 from aide_compare.base.rights import give_up
 from aide_compare.base.words import date_of, words_of_side
@@ -23,8 +23,7 @@ from aide_compare.commands.compare_request import (
     with_defaults,
     work_request,
 )
-from aide_compare.commands.comparison_job import ComparisonJob, Row, keep_failure
-from aide_compare.commands.defaults import machines_state
+from aide_compare.commands.comparison_job import ComparisonJob, JobOutputs, Row, keep_failure
 from aide_compare.compare.comparison import Comparison, ComparisonInput
 from aide_compare.compare.outputs import STDOUT, notes
 from aide_compare.compare.report import report_of
@@ -70,15 +69,16 @@ class Printer:
         place = partial(write_blocks, STDOUT, words="cannot write the report")
         self.printed = Row(place, self._printed)
 
-    def job(self, work: ComparisonInput) -> ComparisonJob:
-        """The comparison that prints so."""
+    def job(self, work: ComparisonInput, keeps_failure: bool) -> ComparisonJob:
+        """The comparison that prints so. Its failure may be kept in the state file."""
         before = [Row(notes, self._notes)]
         after = [Row(notes, self._failure, of_failure=True)]
         if self.is_printed:
             before.append(self.printed)
             after.append(Row(self.printed.place, self._unjudged, of_failure=True))
         judges = self.form != REPORT or self.request.paths
-        return ComparisonJob(self.request, work, before, after, bool(judges))
+        outputs = JobOutputs(before, after, bool(judges), keeps_failure)
+        return ComparisonJob(self.request, work, outputs)
 
     def status_of(self, comparison: Comparison) -> int:
         """The status of the command. A report has AIDE's."""
@@ -146,16 +146,16 @@ def print_comparison(asked: type[PrintRequest], help: Help, arguments: Sequence[
     refuse_names(own_request)
     if own_request.user:
         give_up(own_request.user)
-    defaults = Defaults()
+    # The state of the defaults is that of the daily job, whose failures it has.
+    keeps_failure = own_request.state is not None
     try:
         defaults = read_defaults(arguments)
         request = with_defaults(asked, given, defaults)
         refuse_without_proof(request)
         printer = Printer(request)
-        job = printer.job(work_request(request, defaults))
+        job = printer.job(work_request(request, defaults), keeps_failure)
     except Fault as fault:
-        state = own_request.state or machines_state(defaults, own_request.databases)
-        keep_failure(state, fault)
+        keep_failure(own_request.state, fault)
         raise
     return printer.status_of(job.carry_out())
 

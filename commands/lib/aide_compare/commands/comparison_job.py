@@ -4,7 +4,7 @@ from __future__ import annotations
 import os
 from collections.abc import Iterable, Sequence
 from contextlib import suppress
-from typing import TYPE_CHECKING
+from typing import TYPE_CHECKING, NamedTuple
 
 from aide_compare.base.ending import Fault, fault_of, write_blocks
 from aide_compare.base.files import blocks_of, nameless, private_place
@@ -13,8 +13,9 @@ from aide_compare.base.replacement import ANYBODY_READS, remove, replace
 from aide_compare.base.rights import become_owner
 from aide_compare.commands.compare_request import CompareRequest
 from aide_compare.compare.comparison import Comparison, ComparisonInput
+from aide_compare.compare.history import keep_night
 from aide_compare.compare.outputs import Output, descriptor_of, file_output, open_output
-from aide_compare.compare.state import failed_state, read_state
+from aide_compare.compare.state import failed_state, parse_state, read_state
 from aide_compare.compare.unpack import Opened
 from aide_compare.compare.work import compare_opened, open_databases
 from aide_compare.lines.change import Counts
@@ -30,15 +31,16 @@ def keep_failure(path: str | None, error: Exception) -> None:
     on a full disk, it is removed."""
     if path is None or is_for_looking():
         return
-    with suppress(Fault, OSError):
+    with suppress(Exception):  # The failure itself is told all the same.
         if os.path.lexists(path):
             read_state(path)  # What is no state stays, such as a database or a device.
         become_owner(path)
+        state = failed_state(error)
         try:
-            text = failed_state(error).text()
-            replace(path, text, ANYBODY_READS, "the state file", makes_directory=False)
+            replace(path, state.text(), ANYBODY_READS, "the state file", makes_directory=False)
         except Exception:
             remove(path)
+        keep_night(path, state)
 
 
 class Row:
@@ -81,23 +83,40 @@ def state_bytes(comparison: Comparison, _judged: Judged | None) -> Sequence[byte
     return [comparison.state().text()]
 
 
-class ComparisonJob:
-    """A comparison that is carried out, and its outputs. `judges`: one of these needs its changes
-    with their standings."""
+def state_output(path: str) -> Output:
+    """The state file as a place, whose bytes are a night of the history too."""
+    output = file_output(path, "the state file", ANYBODY_READS)
 
-    def __init__(
-        self,
-        request: CompareRequest,
-        work: ComparisonInput,
-        before: Sequence[Row] = (),
-        after: Sequence[Row] = (),
-        judges: bool = True,
-    ) -> None:
-        self.judges = judges
+    def put(blocks: Iterable[bytes]) -> None:
+        text = b"".join(blocks)
+        output([text])
+        state = parse_state(text)
+        try:
+            keep_night(path, state)
+        except Exception:
+            if state.status <= 7:  # Otherwise the state has another cause.
+                raise
+
+    return put
+
+
+class JobOutputs(NamedTuple):
+    """What a command wants of a comparison beside the outputs that options name."""
+
+    before: Sequence[Row] = ()
+    after: Sequence[Row] = ()
+    judges: bool = True  # One of these needs the changes with their standings.
+    # Not of a comparison by hand over the state of the daily job.
+    keeps_failure: bool = True
+
+
+class ComparisonJob:
+    """A comparison that is carried out, and its outputs."""
+
+    def __init__(self, request: CompareRequest, work: ComparisonInput, outputs: JobOutputs) -> None:
         self.options = request
         self.request = work
-        self.before = before
-        self.after = after
+        self.outputs = outputs
         self.rows: Sequence[Row] = ()
         self.judged: Judged | None = None
 
@@ -125,30 +144,35 @@ class ComparisonJob:
     def _open_outputs(self, comparison: Comparison) -> None:
         """Opens the places of the outputs, as the user in whose directories they and the baseline
         are may write them. Of two failures the first one is kept, and both are told."""
-        state_file = None
+        state_path = self.options.state
+        if comparison.has_failed and not self.outputs.keeps_failure:
+            state_path = None
         try:
             if not self.options.user:
                 files = [path for path in self.options.paths if descriptor_of(path) is None]
                 become_owner(self.request.old, *files)
-            if self.options.state:
-                state_file = file_output(self.options.state, "the state file", ANYBODY_READS)
-            rows = [*self.before, *output_rows(self.options)]
+            rows = [*self.outputs.before, *output_rows(self.options)]
+            if state_path:
+                place = state_output(state_path)
+                rows.append(Row(place, state_bytes, self.outputs.keeps_failure))
         except Fault as fault:
             reason = comparison.fault or fault
-            keep_failure(self.options.state, reason)
+            self._keep_failure(reason)
             if reason is not fault:
                 reason.more += (fault.text,)
             raise reason
-        if state_file:
-            rows.append(Row(state_file, state_bytes, of_failure=True))
-        self.rows = [*rows, *self.after]
+        self.rows = [*rows, *self.outputs.after]
+
+    def _keep_failure(self, error: Exception) -> None:
+        if self.outputs.keeps_failure:
+            keep_failure(self.options.state, error)
 
     def _write(self, comparison: Comparison) -> None:
         """Judges a comparison, makes all outputs, and then hands them to their places in their
         order."""
-        if self.judges and comparison.status == 0:
+        if self.outputs.judges and comparison.status == 0:
             comparison.standings = Counts()
-        elif self.judges and comparison.differs:
+        elif self.outputs.judges and comparison.differs:
             # The modules for it are more than all others together.
             from aide_compare.show.judgement import judge
 
@@ -169,6 +193,6 @@ class ComparisonJob:
                 except Exception as error:
                     failed = failed or error
         if failed:
-            keep_failure(self.options.state, failed)
+            self._keep_failure(failed)
             if not comparison.fault or comparison.fault.text != fault_of(failed).text:
                 raise failed

@@ -27,7 +27,7 @@ from aide_compare.base.options import (
 from aide_compare.base.parser import Defaults, Help, Parser, Values, filled, read_defaults
 from aide_compare.base.replacement import Replacement
 from aide_compare.base.rights import become_owner, give_up
-from aide_compare.commands.comparison_job import ComparisonJob, Row, keep_failure
+from aide_compare.commands.comparison_job import ComparisonJob, JobOutputs, Row, keep_failure
 from aide_compare.commands.compare_request import CompareRequest, refuse_names, work_request
 from aide_compare.commands.defaults import comparison_defaults, machines_state
 from aide_compare.compare.comparison import Comparison
@@ -259,7 +259,7 @@ def compared(job: MailJob) -> Compared:
             raise job.fault
         work = work_request(job.request, job.defaults)
         row = Row(mail.extend, partial(message_of, job, before), of_failure=True)
-        ended = ComparisonJob(job.request, work, after=[row]).carry_out()
+        ended = ComparisonJob(job.request, work, JobOutputs(after=[row])).carry_out()
         state = ended.state()
         news = subject_of(state) if state.status else "no difference"
         return Compared(state, news, b"".join(mail), notes_of(job, ended))

@@ -35,9 +35,10 @@ from aide_compare.base.options import (
 )
 from aide_compare.base.parser import Help, Values, read, read_defaults
 from aide_compare.base.words import SEVERITIES, capitalized, minute_of
+from aide_compare.compare.history import history_path, nights_of
 from aide_compare.compare.state import DAILY, State, read_state
 from aide_compare.show.check import Answer, Level, answer_of
-from aide_compare.show.result import late_text, result_text, time_text
+from aide_compare.show.result import late_text, result_text, table_of, time_text
 
 HELP = Help(
     name="aide-compare status",
@@ -55,6 +56,7 @@ is open and of severity high; 3 UNKNOWN, all else. A LIMIT replaces the rule for
 changes that are not silent, or the least severity of one, high, medium or low.""",
 )
 MAX_LINE = 8000
+HISTORY_NIGHTS = 30
 STDOUT = "-"
 FORMATS = ("text", "json", "prometheus", "nagios")
 PREFIX = "aide_compare_"
@@ -91,6 +93,7 @@ class StatusRequest(Asked):
     warning: AlarmLimit | None = field(WARNING)
     critical: AlarmLimit | None = field(CRITICAL)
     no_defaults: bool = field(NO_DEFAULTS)
+    has_history: bool = option("--history", f"of text: a table of the last {HISTORY_NIGHTS} nights")
     output: str = field(
         Operand(
             "OUTPUT",
@@ -153,6 +156,8 @@ def mail_lines(request: StatusRequest, defaults: Values) -> list[str]:
 
 def write_text(request: StatusRequest, defaults: Values) -> int:
     """What people read. Without a state it says how to get one."""
+    if request.has_history:
+        return write_history(request.state)
     if is_missing(request.state):
         text = f"no comparison is known: there is no {shown(request.state)}"
         hint = "aide-compare setup makes this machine ready for one each day"
@@ -163,6 +168,17 @@ def write_text(request: StatusRequest, defaults: Values) -> int:
         return Status.OK
     lines = [*paragraph(state, request.max_age), *mail_lines(request, defaults)]
     tell(*(guarded(line)[:MAX_LINE] for line in lines))
+    return Status.OK
+
+
+def write_history(path: str) -> int:
+    """A table of the last nights."""
+    nights = nights_of(path)
+    if not nights:
+        raise DeviceFault(
+            f"no night is known: there is no {shown(history_path(path))}, or none in it"
+        )
+    tell(*table_of(nights[-HISTORY_NIGHTS:]))
     return Status.OK
 
 
@@ -223,6 +239,8 @@ WRITERS = {
 def request_of(arguments: Sequence[str], defaults: Values) -> StatusRequest:
     request = read(StatusRequest, arguments, HELP, defaults)
     is_conditional = request.is_quiet or request.max_age != RESULT_AGE.default
+    if request.has_history and request.format != "text":
+        raise usage_fault("only --format text has --history")
     if is_conditional and request.format not in ("text", "nagios"):
         raise usage_fault("only --format text and --format nagios have --quiet and --max-age")
     if request.output != STDOUT:

@@ -1,8 +1,11 @@
 """The result of a comparison in words, as its state file has it."""
 from __future__ import annotations
 
+from collections.abc import Iterable, Iterator
+
+from aide_compare.base.escapes import guarded
 from aide_compare.base.options import MAX_RESULT_AGE
-from aide_compare.base.words import age_in_words, minute_of
+from aide_compare.base.words import SEVERITIES, age_in_words, minute_of
 from aide_compare.compare.state import State, not_compared
 
 
@@ -53,3 +56,20 @@ def time_text(state: State, max_age: int) -> str:
     if state.is_older(max_age):
         text += f": there should have been one in the last {age_in_words(max_age)}"
     return text
+
+
+COLUMNS = (*SEVERITIES, "open", "recorded", "left_out", "trusted", "same")
+
+
+def table_of(nights: Iterable[State]) -> Iterator[str]:
+    """A line for each night under the names of the counts, or with what it has failed by."""
+    names = [name.replace("_", " ") for name in COLUMNS]
+    yield "  ".join(["night".ljust(len("2026-11-25 06:25 UTC")), "status", *names])
+    for night in nights:
+        begin = f"{minute_of(night.time)}  {night.told_status:>6}"
+        if night.status > 7:
+            yield guarded(f"{begin}  {night.error}")
+            continue
+        numbers = night.standings.numbers() if night.standings else {}
+        counts = [str(numbers.get(name, "?")) for name in COLUMNS]
+        yield "  ".join([begin, *(f"{count:>{len(name)}}" for count, name in zip(counts, names))])
