@@ -33,7 +33,12 @@ JOINT = re.compile(r"""(['"])\s*\n\s*[bf]*\1""")
 # What a page has besides the options of its own command: those of a form.
 ALSO = {"man/aide-compare-status.1": ["status", "--format", "prometheus"]}
 # These are comparisons, whose own page has the options that they share with all.
-COMPARISONS = tuple(f"aide-compare-{name}.1" for name in ("json", "mail", "page", "show"))
+COMPARISONS = tuple(f"aide-compare-{name}.1" for name in ("json", "mail", "page"))
+# The commands of a page that is about several.
+SEVERAL = {
+    "aide-compare-compare": [["compare"], ["show"], ["sort"]],
+    "aide-compare-status": [["status"], [CHECK]],
+}
 COMPARE = "aide-compare -E -c compare.conf"
 ADDED = HEAD + "/a 100644 5 MA== 4\n@@end_db\n"
 EMPTY = HEAD + "@@end_db\n"
@@ -172,11 +177,9 @@ class BlocksTest(PagesTest):
 def commands_of(page: str) -> list[list[str]]:
     """The words of each command that a page is about."""
     name = os.path.basename(page).rpartition(".")[0]
-    if name == CHECK:
-        return [[CHECK]]
     if name == "aide-compare-hosts":
         return [["hosts", one] for one in "add list remove compare accept report".split()]
-    return [name.split("-", 3)[2:]]
+    return SEVERAL.get(name, [name.split("-", 3)[2:]])
 
 
 def listed_by(command: list[str]) -> set[str]:
@@ -184,6 +187,16 @@ def listed_by(command: list[str]) -> set[str]:
     text = helped("--help", main=check) if command == [CHECK] else helped(*command, "--help")
     lines = re.findall(r"^ {1,8}(-\S.*?)(?:  .*)?$", text.decode(), re.M)
     return {name for line in lines for name in re.findall(r"(?:^|, )(--?[A-Za-z][\w-]*)", line)}
+
+
+def section(page: str, title: str) -> str:
+    """The text of a section of a manual page."""
+    return read(page).partition(f"\n.Sh {title}\n")[2].partition("\n.Sh ")[0]
+
+
+def entries_of(text: str) -> list[str]:
+    """The entries of lists of options."""
+    return re.findall(r"^\.It (Fl .*)$", text.replace("\\\n", ""), re.M)
 
 
 def named_in(text: str) -> set[str]:
@@ -205,22 +218,26 @@ class WordsTest(unittest.TestCase):
                         self.assertIn(piece.strip(" :"), text)
 
     def test_options(self) -> None:
-        """Commands and their pages have the same options, and each is in some test."""
+        """Commands and their pages have the same options, but for common ones, and each is in some
+        test."""
         tests = glob.glob(os.path.join(TOP, "tests", "**", "*.py"), recursive=True)
         tried = set(re.findall(r"--[a-z][\w-]*", "".join(map(read, tests))))
         in_each = {"-h", "--help", "--version"}
+        common = named_in("\n".join(entries_of(section("man/aide-compare.1", "COMMON OPTIONS"))))
+        everywhere = set(in_each)
         for page in set(MANUALS) - set(OF_THE_PROGRAM):
-            entries = re.findall(r"^\.It (Fl .*)$", read(page).replace("\\\n", ""), re.M)
-            named = {name for entry in entries for name in named_in(entry)} - in_each
+            named = named_in("\n".join(entries_of(read(page)))) - in_each
             listed = set().union(*map(listed_by, commands_of(page))) - in_each
             more = listed_by(ALSO[page]) if page in ALSO else set()
+            everywhere |= listed
             with self.subTest(page):
                 self.assertGreater(len(listed), 1)
                 is_comparison = os.path.basename(page) in COMPARISONS
                 others = listed_by(["compare"]) if is_comparison else set()
-                self.assertFalse(listed - others - named, "the page has no entry")
+                self.assertFalse(listed - others - named - common, "the page has no entry")
                 self.assertFalse(named - listed - more, "no command has it")
                 self.assertFalse({name for name in listed - tried if len(name) > 2}, "untested")
+        self.assertFalse(common - everywhere, "common, and no command has it")
 
     def test_defaults(self) -> None:
         """The pages of a comparison and its mail name the options of the administrator's file."""
@@ -228,7 +245,7 @@ class WordsTest(unittest.TestCase):
             ("compare", COMPARISON_DEFAULTS, "\ntakes\n", "from there"),
             ("mail", MAIL_DEFAULTS, "also come\n", "\nis without"),
         ):
-            page = read(f"man/aide-compare-{name}.1").partition(".Sh DEFAULTS\n")[2]
+            page = section(f"man/aide-compare-{name}.1", "DEFAULTS")
             text = page.partition(begin)[2].partition(end)[0]
             with self.subTest(name):
                 self.assertEqual(named_in(text), {option.name for option in table})

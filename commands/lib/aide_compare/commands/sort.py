@@ -41,7 +41,7 @@ AIDE itself always writes path order. A database straight from AIDE that is out 
 damaged, for example by a full disk: make it anew. Sort only what another tool wrote or merged.""",
     epilog="""\
 Status: 0 sorted; 24 a path is there twice, or this is no database; 15, 18, 22: see
-aide-compare-sort(1).""",
+aide-compare(1).""",
 )
 ADVICE = (
     "AIDE itself writes path order: if this database is straight from AIDE, it is damaged (was the"
