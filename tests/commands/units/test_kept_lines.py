@@ -36,10 +36,9 @@ MANY += [fields_of(f"/srv/{name}") for name in ("\\", "\\n", "x\ty", 'x"', "\x7f
 
 def read_bytes(data: bytes) -> list[str]:
     """The paths that a reader of these lines gives."""
-    return [path.decode() for _, path, _, _ in Reader(io.BytesIO(data)).outlines()]
+    return [change.path.decode() for change in Reader(io.BytesIO(data)).changes()]
 
 
-@mock.patch.object(reader, "MANY", 1)  # Few lines are read as many are.
 class KeptLinesTest(ModuleTest):
     def test_written(self) -> None:
         """Lines that were cut are not kept, and those of another form are a Fault."""
@@ -90,7 +89,7 @@ class KeptLinesTest(ModuleTest):
         judged = Judged(reader_over(stream_of(*silent, *told)))
         for limit, count in ((1, 0), (ROOM, 3)):
             kept = Reader(io.BytesIO(b"".join(kept_lines.kept_lines(judged, limit))))
-            lines = [json.loads(line) for *_, line in kept.outlines()]
+            lines = [change.fields for change in kept.changes()]
             self.assertEqual((lines, kept.summary["old"]), (told[:count], "o"))
             self.assertEqual((kept.counts.total, kept.counts.changes), (5, count))
             counts = Counts(same=1, left_out=1, open=3, open_high=1, open_medium=2, told_status=3)
@@ -155,14 +154,13 @@ class KeptLinesTest(ModuleTest):
         self.assertEqual(sites, [b"", b"/", b"/srv", b"/srv", b"/"])
 
     def test_proved(self) -> None:
-        """Most lines of aide_lines have the form of the one before. Each has its own path, and the
-        end all counts."""
+        """Each line has its own path, and the end all counts."""
         first, *lines, end = os.pread(stream_of(*MANY), ROOM, 0).splitlines(keepends=True)
         stream = Reader(io.BytesIO(b"".join((first, *lines, end))))
         self.assertEqual(set(stream.counts), {0}, "it was not read yet")
-        found = [(path, key) for _, path, key, _ in stream.outlines()]
+        found = [change.path for change in stream.changes()]
         paths = [each["path"].encode() for each in MANY]
-        self.assertEqual(found, [(path, key_of_path(path)) for path in paths])
+        self.assertEqual(found, paths)
         self.assertEqual(stream.counts, (46, 26, 0, 20, 20, 0, 0, 26))
         rows = [
             ("line 47: the entry is not in the order", [first, *lines[:45], lines[44], end]),
@@ -179,7 +177,7 @@ class KeptLinesTest(ModuleTest):
             rows.append(("line 48: the end does not fit", [first, *lines, other]))
         for words, some in rows:
             with self.subTest(words, end=some[-1]), self.assertRaisesRegex(Refused, words):
-                list(Reader(io.BytesIO(b"".join(some))).outlines())
+                list(Reader(io.BytesIO(b"".join(some))).changes())
 
     def test_refused(self) -> None:
         """What another hand, or a full disk, has made of the file is not read as fewer changes."""

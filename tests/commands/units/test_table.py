@@ -1,4 +1,4 @@
-"""The table of changes, its failures, what a text lists of it; where paths lead; page values."""
+"""The table of changes, its failures, what a text lists of it; where paths lead."""
 from __future__ import annotations
 
 import fcntl
@@ -8,7 +8,6 @@ from collections import Counter
 from unittest import mock
 
 from tests.commands.units.calls import ModuleTest, PlacesTest
-from tests.commands.units.streams import fields_of, line_of
 
 from aide_compare.base import rows
 from aide_compare.base.directories import closed_after
@@ -21,15 +20,13 @@ from aide_compare.changes.severity import RANKS
 from aide_compare.changes.table import Table, Values
 from aide_compare.changes.weighing import directory_of, group_of_owner, party_of
 from aide_compare.compare import outputs
-from aide_compare.lines.change import Fields
 from aide_compare.show.digest import MAIL, digest
-from aide_compare.show.page import PageRows, values_in
 
 
 def change(path: bytes, owner: int = 0, severity: str = "high") -> Values:
     key = key_of_path(path)
     place = (group_of_owner(owner), SEVERITIES.index(severity) * RANKS, party_of(owner))
-    return bytearray(key), bytearray(directory_of(key)), "changed", *place, "", 0, 0
+    return key, directory_of(key), "changed", *place, "", 0, 0
 
 
 def table_of(*changes: Values) -> Table:
@@ -43,7 +40,7 @@ class TableTest(ModuleTest):
         """Too many rows, too many bytes, and any other failure are a Fault."""
         few = [change(b"/%d" % number) for number in range(3)]
         many = [change(b"/%d" % number, number // 2) for number in range(9)]
-        with mock.patch.object(tables, "MAX_ROWS", 2), mock.patch.object(tables, "BLOCK", 1):
+        with mock.patch.object(tables, "MAX_ROWS", 2):
             five = [change(b"/%d" % number) for number in range(5)]
             self.fails(18, "there are more than 4 changes that are root's", table_of, *five)
             self.expect("as many as may be", len(table_of(*five[:4])), 4)
@@ -51,7 +48,7 @@ class TableTest(ModuleTest):
             self.expect("those of others", table.add([*many, change(b"/x"), change(b"/y")]), 7)
             places = [place for place, in table.ask("select path_key from changes")]
             self.expect("root's", places, [b"\x010", b"\x011", b"\x01x", b"\x01y"])
-            (found,) = table.ask("select sum(size) from counted")
+            (found,) = table.ask("select sum(size) from numbers")
             self.expect("all are counted", found, (11,))
         with mock.patch.object(rows.Rows.__init__, "__defaults__", (9 * rows.PAGE,)):
             many = [change(b"/%d" % number + b"n" * 999) for number in range(99)]
@@ -114,16 +111,3 @@ class OutputsTest(PlacesTest):
         self.assertEqual(os.stat(self.path("it")).st_mode, 0o100600)
         self.fails(18, "No such file", put, self.path("none/it"), b"x")
         self.assertFalse(os.path.exists(self.path("none")))
-
-    @mock.patch("aide_compare.lines.reader.MANY", 1)
-    def test_values(self) -> None:
-        """The values of a frequent form are those of the line itself, however odd one is."""
-        rows = PageRows()
-        usual = fields_of("/a", "changed", old={"Size": 0, "SHA256": "00"}, new={"MD5": "+/="})
-        odd: list[Fields] = [{"MD5": text} for text in ("<b>", "\\", "\u202e", "%b", "", "x" * 200)]
-        odd += [{"Size": number} for number in (1 << 53, 10**14, -1, "7")]
-        odd += [{"Lname": text} for text in ("100000000000000", "%b", "x")]
-        for old in (usual["new"], *odd):
-            lines = [line_of({**usual, "old": old})] * 3
-            for line in (*lines, line_of({**usual, "old": {"MD5": "7", "Size": 7}})):
-                self.assertEqual(rows._values(line), values_in(line))

@@ -9,12 +9,10 @@ from tests.commands.units.streams import line_of
 
 from aide_compare.base.paths import key_of_path
 from aide_compare.changes.severity import Severity
-from aide_compare.changes.weighing import Known, directory_of, group_of_owner, is_content
-from aide_compare.changes.weighing import known_of, party_of
-from aide_compare.lines import reader
-from aide_compare.lines.attributes import FORMS
-from aide_compare.lines.change import change_of
-from aide_compare.lines.reader import MAX_LINE, Forms
+from aide_compare.changes import weighing
+from aide_compare.changes.weighing import MAX_LINE, Known, Weights, directory_of, group_of_owner
+from aide_compare.changes.weighing import is_content, known_of, party_of
+from aide_compare.lines.change import change_line, change_of
 from aide_compare.lines.rights import differing, rights_of
 
 SAME = "f...........H....."
@@ -37,9 +35,10 @@ def fields_of(letters: str = SAME, **sides: dict[str, Any]) -> dict[str, Any]:
     return {"kind": kind, "path": PATH, "summary": letters, **sides}
 
 
-def weighed(forms: Forms, fields: dict[str, Any]) -> tuple[Known, int]:
-    """What is known of a line by its form, and its rank."""
-    known = forms.of(line_of(fields)).value(known_of)
+def weighed(weights: Weights, fields: dict[str, Any]) -> tuple[Known, int]:
+    """What is known of a line, which is what nothing is remembered for, and its rank."""
+    known = weights.of(change_line(fields, line_of(fields)))
+    assert known == known_of(fields), fields
     return known, Severity().ranks(b"/srv", known.held)(b"x")
 
 
@@ -58,60 +57,53 @@ class WeighingTest(ModuleTest):
 
     def test_order_of_sides(self) -> None:
         """A right that came weighs more than one that went."""
-        forms = Forms()
+        weights = Weights()
         set_id = {**NEW, "Perm": "4755"}
         letters = SAME[:4] + "p" + SAME[5:]
-        came = weighed(forms, fields_of(letters, old=OLD, new=set_id))
-        went = weighed(forms, fields_of(letters, old={**OLD, "Perm": "4755"}, new=NEW))
+        came = weighed(weights, fields_of(letters, old=OLD, new=set_id))
+        went = weighed(weights, fields_of(letters, old={**OLD, "Perm": "4755"}, new=NEW))
         self.assertLess(came[1], went[1])
         for side in (OLD, {**OLD, "Pad": "x" * MAX_LINE}):
-            again = weighed(forms, fields_of(letters, old=side, new=set_id))
+            again = weighed(weights, fields_of(letters, old=side, new=set_id))
             self.assertEqual(again, came, "known, or too long to be kept")
         self.assertEqual((came[0].party, came[0].asked), (0, ""))
-        self.assertEqual(len(forms.known), 2)
-        with mock.patch.object(reader, "MAX_FORMS", 3):
+        self.assertEqual(len(weights._known), 2)
+        with mock.patch.object(weighing, "MAX_KNOWN", 3):
             for number in (1, 2, 3):
-                forms.of(line_of({**fields_of(new=NEW), "left_out": number}))
-        self.assertEqual(len(forms.known), 3, "no more are kept than may be")
+                weighed(weights, fields_of(new={**NEW, "UID": number}))
+        self.assertEqual(len(weights._known), 3, "no more are kept than may be")
 
     def test_remembered(self) -> None:
         """An access list in base 16 counts, although such rights without it came before."""
-        forms = Forms()
-        before = weighed(forms, fields_of(old=PLAIN, new=PLAIN))
-        listed = weighed(forms, fields_of(old=PLAIN, new={**PLAIN, "ACL_hex": "ff"}))
+        weights = Weights()
+        before = weighed(weights, fields_of(old=PLAIN, new=PLAIN))
+        listed = weighed(weights, fields_of(old=PLAIN, new={**PLAIN, "ACL_hex": "ff"}))
         self.assertLess(listed[1], before[1])
 
-    def test_forms(self) -> None:
-        """Lines with other numbers or digests have one form, and none with another right; so says
-        what matches the lines of a frequent form, too."""
-        pairs = {"number": (1, 2), "time": (1, 2), "digest": ("00", "11")}
-        for label, form in FORMS.items():
-            forms = Forms()
-            one, other = (
-                line_of(fields_of(new={label: value})) for value in pairs.get(form, ("aa", "bb"))
-            )
-            first = forms.of(one)
-            is_one = form in pairs and label not in ("UID", "GID")
-            self.expect(label, forms.of(other) is first, is_one)
-            first.learn()
-            self.expect(
-                label, [first.match(line) is not None for line in (one, other)], [True, is_one]
-            )
-        members: list[dict[str, Any]] = [{}, {"kind": "changed"}, {"same_as": "old"}]
-        members += [{"left_out": 1}, {"left_out": 2}]
-        lines = [line_of({**fields_of(new=NEW), **more}) for more in members]
-        for line in lines:
-            known = forms.of(line)
-            known.learn()
-            self.assertEqual([other for other in lines if known.match(other)], [line])
+    def test_members(self) -> None:
+        """Whatever is remembered of lines before, each is weighed as if it were the first one."""
+        sides: list[dict[str, Any]] = [PLAIN, FOLDER, OLD, NEW, GREATER, {**NEW, "Linkcount": 2}]
+        sides += [{**FOLDER, "Linkcount": 3}, {**PLAIN, "SHA256": "7"}, {**PLAIN, "MD5": "7"}]
+        lines = [
+            {**fields_of(letters, old=old, new=new), "type": word}
+            for letters in (SAME, "!" + SAME[1:], "f.........n.H.....", SAME[:4] + "p" + SAME[5:])
+            for old in sides
+            for new in sides
+            for word in ("File", "Directory")
+        ]
+        lines += [fields_of(new=side) for side in sides] + [fields_of(old=side) for side in sides]
+        weights = Weights()
+        for fields in lines:
+            weighed(weights, fields)
+        self.assertLess(len(weights._known), len(lines), "something is remembered")
 
     def test_types(self) -> None:
         """Two types with one word are not the same, whatever lines with this word came before."""
         socket = {**OLD, "Type": "Other"}
         pair = [fields_of(letters, old=socket, new=socket) for letters in (SAME, "!" + SAME[1:])]
         for first, then in (pair, pair[::-1]):
-            forms = Forms()
-            self.assertNotEqual(weighed(forms, first)[1], weighed(forms, then)[1])
+            weights = Weights()
+            self.assertNotEqual(weighed(weights, first)[1], weighed(weights, then)[1])
 
     def test_differing(self) -> None:
         """A right whose letter says no difference is no value of the change; all others stay."""
@@ -147,7 +139,7 @@ class WeighingTest(ModuleTest):
 
     def test_content(self) -> None:
         """Nothing but a content, or the target of a link, by the letters of what differs."""
-        forms = Forms()
+        weights = Weights()
         for label, letters, word, asked in (
             ("a content", "f.>b....mci.H.....", "File", "content"),
             ("a content of a file without flags", "f>>b....mci.H    .", "File", ""),
@@ -162,7 +154,7 @@ class WeighingTest(ModuleTest):
             old, new = ({**side, "Type": word} for side in (OLD, NEW))
             changed = fields_of(letters, old=old, new=new)
             self.expect(label, is_content(changed, word == "Link"), bool(asked))
-            self.expect(f"asked: {label}", weighed(forms, changed)[0].asked, asked)
+            self.expect(f"asked: {label}", weighed(weights, changed)[0].asked, asked)
         for more in (fields_of(old=OLD, new=GREATER), fields_of(old=GREATER, new=OLD)):
             self.expect("a digest on one side alone", is_content(more, False), False)
         self.expect("an entry that came", is_content(fields_of("f", new=NEW), False), True)
@@ -178,4 +170,4 @@ class WeighingTest(ModuleTest):
             ("another user's new directory", fields_of(new={**FOLDER, "UID": 1}), False),
             ("a file that went", fields_of(old=PLAIN), False),
         ):
-            self.expect(label, weighed(forms, fields)[0].asked == "content", is_it)
+            self.expect(label, weighed(weights, fields)[0].asked == "content", is_it)

@@ -5,7 +5,6 @@ import json
 import os
 import subprocess
 from typing import Any
-from unittest import mock
 
 from tests.lib.programs import lines_program_of
 
@@ -13,7 +12,7 @@ from aide_compare.base.files import in_memory
 from aide_compare.base.words import SEVERITIES
 from aide_compare.changes.table import Marks
 from aide_compare.compare.comparison import Comparison, ComparisonInput, Lines
-from aide_compare.lines.reader import ENCODE, NOTHING_COUNTED
+from aide_compare.lines.reader import NOTHING_COUNTED
 from aide_compare.show.json_lines import added_lines
 from aide_compare.show.page import MAX_PAGE, PageRows, page
 
@@ -43,13 +42,12 @@ def order_of(fields: Fields) -> tuple[str, int]:
     return fields["standing"], SEVERITIES.index(fields.get("severity", "high"))
 
 
-@mock.patch("aide_compare.lines.reader.MANY", 1)  # Few lines are read as many are.
 def page_over(objects: list[Fields], limit: int = MAX_PAGE) -> bytes:
     """The page of the objects of lines, with the standings that they say."""
-    rows = PageRows()
+    rows = PageRows(limit)
     for fields in sorted(changes_of(objects), key=order_of):
         marks = (fields.get(name, "") for name in Marks._fields)
-        rows.add(ENCODE(fields).encode() + b"\n", Marks(*marks))
+        rows.add(fields, Marks(*marks))
     database = {"side": "Old database", "name": "/a", "time": "", "sha256": "00"}
     heading: Fields = {"title": "File changes", "outcome": "", "databases": [database]}
     heading.update(counts=[["open", 1]], remarks=[], facts=[], lists=[])

@@ -5,7 +5,6 @@ host have is grouped by the package, and the rest is open.
 """
 from __future__ import annotations
 
-import json
 import os
 import re
 from collections import Counter
@@ -18,18 +17,22 @@ from aide_compare.base.escapes import shown
 from aide_compare.base.paths import key_of_path
 from aide_compare.base.words import SEVERITIES, counted, status_of_counts
 from aide_compare.changes.recorded import Dpkg, Matcher, Rpm
-from aide_compare.changes.severity import RANKS, Severity
+from aide_compare.changes.severity import Severity
 from aide_compare.changes.table import Marks, Table, Values
-from aide_compare.changes.weighing import OTHERS, directory_of, is_of_directory, known_of
+from aide_compare.changes.weighing import OTHERS, Weights, directory_of, is_of_directory
 from aide_compare.compare.line_room import NO_OTHERS, Others
-from aide_compare.lines.change import Change, Counts, Standing, change_of
-from aide_compare.lines.reader import Form, Forms, Reader
+from aide_compare.lines.change import Change, ChangeLine, Counts, Standing
+from aide_compare.lines.change import account_of, change_line, change_of, parsed
+from aide_compare.lines.reader import Reader
 
 LINE_AT = "select line_at, line_size from changes where place = ?"
-COUNTS = "select standing, level, kind, sum(size) from counted group by 1, 2, 3 having sum(size)"
+COUNTS = "select standing, level, kind, sum(size) from numbers group by 1, 2, 3"
 # The titles above the packages that people hear of first.
 TITLES = ("Unsigned packages", "New packages", "Removed packages")
 MAX_MEMBERS = 1000
+# So many changes are parsed once and no more, unless their lines are long.
+MAX_KEPT = 1000
+MAX_LINE = 1 << 11
 MAX_NAME = 100
 # The files of a package among dpkg's records.
 NAMING = rb".*/([A-Za-z0-9][A-Za-z0-9+.-]*)(?::[a-z0-9-]+)?\.(list|md5sums)"
@@ -51,6 +54,7 @@ class Judged:
         self.left_out: Counter[int] = Counter()
         # Directories with another number of links, and a directory in each that is left out.
         self.members: dict[bytes, str] = {}
+        self._kept: dict[int, ChangeLine] = {}  # The first ones, by their places.
         self.table = Table()
         beyond = self.table.add(self._values(reader))
         self.lines_there = reader.counts.changes
@@ -66,7 +70,7 @@ class Judged:
                 self.silent[Standing(account).key] += count
                 self.left_out += Counter({left_out: count} if left_out else {})
             else:
-                self.table.count(kind, OTHERS, RANKS - 1, count)
+                self.table.count(kind, OTHERS, 0, count)
                 open_ones += count
         return open_ones
 
@@ -79,39 +83,38 @@ class Judged:
     def _values(self, reader: Reader) -> Iterator[Values]:
         """Yields the values of the changes that are not silent, and counts all."""
         severity = Severity()
+        weights = Weights()
         line_at = self.begin
-        last: Form | None = None
-        above = b""
-        for form, path, key, line in reader.outlines():
-            size = len(line)
-            silent = form.account and form.silent(path)
+        place = 0
+        for change in reader.changes():
+            size = len(change.line)
+            silent = change.silent
             if silent:
                 self.silent[silent.key] += 1
-                if form.left_out:
-                    self.left_out[form.left_out] += 1
-                    self._note_member(form, path)
+                if change.left_out:
+                    self.left_out[change.left_out] += 1
+                    self._note_member(change)
             else:
-                directory, _, name = path.rpartition(b"/")
-                # Most changes are in the directory of the one before. The root is in none.
-                if form is not last or directory != above or not directory:
-                    last = form
-                    above = directory
-                    held, owners, party, asked, has_other_links = form.value(known_of)
-                    kind = form.kind
-                    rank_of = severity.ranks(directory, held)
-                    site = bytearray(directory_of(key))
-                rank = rank_of(name)
+                place += 1
+                if place <= MAX_KEPT and size <= MAX_LINE:
+                    self._kept[place] = change
+                directory, _, name = change.path.rpartition(b"/")
+                held, owners, party, asked, has_other_links = weights.of(change)
+                rank = severity.ranks(directory, held)(name)
                 if has_other_links and len(self.members) < MAX_MEMBERS:
-                    self.members[path] = ""
-                yield bytearray(key), site, kind, owners, rank, party, asked, line_at, size
+                    self.members[change.path] = ""
+                key = key_of_path(change.path)
+                site = directory_of(key)
+                yield key, site, change.kind, owners, rank, party, asked, line_at, size
             line_at += size
 
-    def _note_member(self, form: Form, path: bytes) -> None:
+    def _note_member(self, change: ChangeLine) -> None:
         """Notes why the directory above has other links, if this is a directory that came or went.
         What is in a directory follows it."""
-        above, _, name = path.rpartition(b"/")
-        if self.members.get(above) == "" and form.kind != "changed" and form.value(is_of_directory):
-            self.members[above] = f"{form.kind} {shown(name, MAX_NAME)} (left out)"
+        above, _, name = change.path.rpartition(b"/")
+        is_member = change.kind != "changed" and is_of_directory(change.fields)
+        if is_member and self.members.get(above) == "":
+            self.members[above] = f"{change.kind} {shown(name, MAX_NAME)} (left out)"
 
     @cached_property
     def counts(self) -> Counts:
@@ -139,29 +142,32 @@ class Judged:
 
     def lines(self) -> Iterator[tuple[bytes, Marks]]:
         """Yields the lines of all changes in the order of paths, with their marks."""
-        forms = Forms()
         nothing = 0, 0, Marks("")
         others = self.table.marks(order="place")
-        next_at, _, marks = next(others, nothing)
+        _, next_at, marks = next(others, nothing)
         self.file.seek(self.begin)
         line_at = self.begin
         for line in islice(self.file, self.lines_there):
             if line_at == next_at:
                 yield line, marks
-                next_at, _, marks = next(others, nothing)
+                _, next_at, marks = next(others, nothing)
             else:
-                account = forms.of(line).account or Standing.OPEN
+                account = account_of(parsed(line)) or Standing.OPEN
                 yield line, Marks(account.value)
             line_at += len(line)
 
-    def line(self, at: int, size: int) -> bytes:
-        """The line of a change by where it begins."""
-        return os.pread(self.file.fileno(), size, at)
+    def line(self, place: int) -> ChangeLine:
+        """The line of the change at a place of the table."""
+        change = self._kept.get(place)
+        if change is None:
+            ((at, size),) = self.table.ask(LINE_AT, place)
+            line = os.pread(self.file.fileno(), size, at)
+            change = change_line(parsed(line), line)
+        return change
 
     def read(self, place: int) -> Change:
         """The change at a place of the table, as its line has it."""
-        (found,) = self.table.ask(LINE_AT, place)
-        return change_of(json.loads(self.line(*found)))
+        return change_of(self.line(place).fields)
 
 
 def named_packages(changes: Table, has_pair: bool) -> dict[str, list[str]]:

@@ -5,9 +5,7 @@ from __future__ import annotations
 from collections import Counter
 from collections.abc import Iterable, Iterator
 from functools import lru_cache
-from itertools import chain, islice
-from operator import itemgetter
-from typing import Any, NamedTuple
+from typing import NamedTuple
 
 from aide_compare.base.ending import DeviceFault
 from aide_compare.base.paths import path_of
@@ -25,24 +23,18 @@ create table changes (
     standing text default 'open', package text default '', is_listed integer default false,
     level integer as (rank / {RANKS})
 )"""
-# How many changes were added of one kind, group of owners and rank. They are counted meanwhile,
-# since asking the table for it takes as long as putting all in order.
-SIZES = "create table sizes (kind text, owners integer, rank integer, size integer)"
-# The same by what the changes are now.
-COUNTED = f"""
-create view counted as
-select 'open' as standing, rank / {RANKS} as level, owners, kind, size from sizes
-union all select standing, level, owners, kind, 1 from changes where standing = 'recorded'
-union all select 'open', level, owners, kind, -1 from changes where standing = 'recorded'"""
-# What a change is inserted with. For a bytearray and a number, but not for bytes and None, sqlite3
-# looks for no function that would adapt them, which takes as long as all else.
-Values = tuple[bytearray, bytearray, str, int, int, int, str, int, int]
+# Changes of which nothing but the number is known.
+BEYOND = "create table beyond (kind text, owners integer, level integer, size integer)"
+# How many changes there are, by what they are now.
+NUMBERS = """
+create view numbers as
+select standing, level, owners, kind, count(*) as size from changes group by 1, 2, 3, 4
+union all select 'open', level, owners, kind, size from beyond"""
+# What a change is inserted with.
+Values = tuple[bytes, bytes, str, int, int, int, str, int, int]
 INSERT = """
-insert into changes (path_key, site, kind, owners, rank, party, asked, line_at, line_size) values"""
-ROW = "(?, ?, ?, ?, ?, ?, ?, ?, ?)"
-OWNERS = 3
-SIZE_KEY = itemgetter(2, OWNERS, 4)
-BLOCK = 100  # So many rows are inserted at once, which takes two thirds of the time.
+insert into changes (path_key, site, kind, owners, rank, party, asked, line_at, line_size)
+values (?, ?, ?, ?, ?, ?, ?, ?, ?)"""
 # What people read first. Of one severity that is what is root's, then what is a service's; what the
 # fewest of many hosts have; what the first line of the table of severities means, such as set-ID
 # bits; what was removed or changed before what was added; and then the path has the last word.
@@ -65,8 +57,10 @@ class Marks(NamedTuple):
     @lru_cache(maxsize=1024)
     def members(self) -> bytes:
         """What is known of them, as the end of an object that has other members before."""
-        known = {name: value for name, value in self._asdict().items() if value}
-        return embedded(known).replace(b"{", b",", 1)
+        return embedded(self.known()).replace(b"{", b",", 1)
+
+    def known(self) -> dict[str, str]:
+        return {name: value for name, value in self._asdict().items() if value}
 
 
 class Table(Rows):
@@ -74,8 +68,8 @@ class Table(Rows):
 
     def __init__(self) -> None:
         super().__init__(SCHEMA)
-        self.do(SIZES)
-        self.do(COUNTED)
+        self.do(BEYOND)
+        self.do(NUMBERS)
 
     def __len__(self) -> int:
         return int(next(self.ask("select coalesce(max(place), 0) from changes"))[0])
@@ -83,26 +77,28 @@ class Table(Rows):
     def add(self, changes: Iterable[Values]) -> int:
         """Takes changes in the order of paths. If there are too many, only those take part that may
         be root's; of all others it returns the number. A Fault if root's are too many."""
-        sizes: Counter[Any] = Counter()
-        rows = iter(changes)
-        size = 0
-        while block := list(islice(rows, BLOCK)):
-            sizes.update(map(SIZE_KEY, block))
-            if size >= MAX_ROWS:
-                block = [values for values in block if values[OWNERS] == 0]
-            if block:
-                values = chain.from_iterable(block)
-                self.do(f"{INSERT} {', '.join([ROW] * len(block))}", *values)
-            size += len(block)
-            if size > 2 * MAX_ROWS:
-                raise DeviceFault(f"there are more than {2 * MAX_ROWS} changes that are root's")
-        for (kind, owners, rank), number in sizes.items():
-            self.count(kind, owners, rank, number)
-        return sum(sizes.values()) - size
+        others: Counter[tuple[str, int, int]] = Counter()
 
-    def count(self, kind: str, owners: int, rank: int, size: int) -> None:
+        def kept() -> Iterator[Values]:
+            size = 0
+            for values in changes:
+                _, _, kind, owners, rank, *_ = values
+                if size >= MAX_ROWS and owners != 0:
+                    others[kind, owners, rank // RANKS] += 1
+                    continue
+                size += 1
+                if size > 2 * MAX_ROWS:
+                    raise DeviceFault(f"there are more than {2 * MAX_ROWS} changes that are root's")
+                yield values
+
+        self.do_all(INSERT, kept())
+        for (kind, owners, level), number in others.items():
+            self.count(kind, owners, level, number)
+        return sum(others.values())
+
+    def count(self, kind: str, owners: int, level: int, size: int) -> None:
         """Takes the number of some changes, and nothing else."""
-        self.do("insert into sizes values (?, ?, ?, ?)", kind, owners, rank, size)
+        self.do("insert into beyond values (?, ?, ?, ?)", kind, owners, level, size)
 
     def places(self, order: str = ORDER) -> Iterator[int]:
         """Yields the places of all changes in an order, the one in which people read them if no
@@ -119,11 +115,11 @@ class Table(Rows):
     def marks(
         self, condition: str = "true", order: str = ORDER
     ) -> Iterator[tuple[int, int, Marks]]:
-        """Yields where lines begin, their sizes and their marks, in an order."""
-        columns = "line_at, line_size, standing, level, package"
+        """Yields the places of changes, where their lines begin, and their marks, in an order."""
+        columns = "place, line_at, standing, level, package"
         question = f"select {columns} from changes where {condition} order by {order}"
-        for line_at, line_size, standing, level, package in self.ask(question):
-            yield line_at, line_size, Marks(standing, SEVERITIES[level], package)
+        for place, line_at, standing, level, package in self.ask(question):
+            yield place, line_at, Marks(standing, SEVERITIES[level], package)
 
     def record(self, packages: Iterable[tuple[str, int]]) -> None:
         """Notes that packages have the changes at some places, each the first that is named."""

@@ -2,17 +2,23 @@
 of it."""
 from __future__ import annotations
 
-import json
 import re
 from typing import NamedTuple
 
 from aide_compare.base.database import SET_ID
 from aide_compare.base.paths import SLASH
 from aide_compare.changes.severity import Held, has_same_rights, held_by
-from aide_compare.lines.change import Fields
-from aide_compare.lines.rights import ROOT, Rights, Side, owner_of_change, rights_of
+from aide_compare.lines.change import ChangeLine, Fields
+from aide_compare.lines.reader import HEX
+from aide_compare.lines.rights import PLACES, ROOT, Rights, Side, owner_of_change, rights_of
 
 MAX_NUMBER = (1 << 63) - 1
+LINKS = "Linkcount"
+# The members of a side that say its rights.
+RIGHTS_MEMBERS = [name + end for name in ("Type", *PLACES) for end in ("", HEX)]
+# What is remembered has a bound.
+MAX_KNOWN = 1 << 9
+MAX_LINE = 1 << 11
 UNKNOWN = -1
 OTHERS = 2  # The group of owners who are neither root nor a service.
 FIRST_USER = 1000  # The first number of a user who is no service, as in login.defs(5).
@@ -23,7 +29,7 @@ TARGET = r"[^!]...[. ]{3}....[. ]{7}"
 
 
 class Known(NamedTuple):
-    """What a line says of how much its change matters: the same for all lines of its form."""
+    """What a line says of how much its change matters: the same for all lines with these rights."""
 
     held: Held
     owners: int  # The group of its owner.
@@ -65,22 +71,45 @@ def may_be_content(old: Side, new: Rights) -> bool:
     return has_same_rights(old, new)
 
 
-def known_of(line: bytes) -> Known:
-    """What is known by a line."""
-    fields = json.loads(line)
+def known_of(fields: Fields) -> Known:
+    """What is known by the object of a line."""
     old, new = rights_of(fields)
     owner = owner_of_change(old, new)
     asked = ""
     if new is not None and may_be_content(old, new) and is_content(fields, new.is_link):
         asked = "target" if new.is_link else "content"
-    other_links = fields["kind"] == "changed" and "Linkcount" in fields["new"]
-    has_other_links = other_links and is_of_directory(line)
+    other_links = fields["kind"] == "changed" and LINKS in fields["new"]
+    has_other_links = other_links and is_of_directory(fields)
     return Known(held_by(old, new), group_of_owner(owner), party_of(owner), asked, has_other_links)
 
 
-def is_of_directory(line: bytes) -> bool:
+class Weights:
+    """What is known by lines, remembered by the members that it depends on."""
+
+    def __init__(self) -> None:
+        self._known: dict[object, Known] = {}
+
+    def of(self, change: ChangeLine) -> Known:
+        fields = change.fields
+        old = fields.get("old")
+        new = fields.get("new")
+        key = (
+            *(fields["kind"], fields.get("summary"), fields.get("type")),
+            None if old is None else tuple(map(old.get, RIGHTS_MEMBERS)),
+            None if new is None else tuple(map(new.get, RIGHTS_MEMBERS)),
+            old is not None and new is not None and (old.keys() == new.keys(), LINKS in new),
+        )
+        known = self._known.get(key)
+        if known is None:
+            known = known_of(fields)
+            if len(self._known) < MAX_KNOWN and len(change.line) <= MAX_LINE:
+                self._known[key] = known
+        return known
+
+
+def is_of_directory(fields: Fields) -> bool:
     """Whether a line is that of a directory."""
-    return bool(json.loads(line)["type"] == "Directory")
+    return bool(fields.get("type") == "Directory")
 
 
 def is_content(fields: Fields, is_link: bool) -> bool:

@@ -2,12 +2,11 @@
 out."""
 from __future__ import annotations
 
-import json
 from collections import Counter
 
 from aide_compare.base.processes import Taker
-from aide_compare.lines.change import Fields, Standing
-from aide_compare.lines.reader import COUNTS_OF_END, ENCODE, EndCounts, Forms
+from aide_compare.lines.change import Fields, Standing, change_line, parsed
+from aide_compare.lines.reader import COUNTS_OF_END, ENCODE, EndCounts
 from aide_compare.lines.rights import ROOT, owner_of_change, rights_of
 
 CHANGE = b'{"kind":'  # Begins the line of a change.
@@ -16,9 +15,9 @@ Others = Counter[tuple[str, str, int]]
 NO_OTHERS: Others = Counter()
 
 
-def may_be_roots(line: bytes) -> bool:
+def may_be_roots(fields: Fields) -> bool:
     """Whether one side of a change is root's, or its owner is not known."""
-    return owner_of_change(*rights_of(json.loads(line))) in (None, ROOT)
+    return owner_of_change(*rights_of(fields)) in (None, ROOT)
 
 
 class LineRoom:
@@ -33,7 +32,6 @@ class LineRoom:
         self.lacks_end = False  # It is left to whoever knows what is kept.
         self._begin = b""  # Of a line that is not whole yet.
         self._is_inside = False  # The first bytes of a line are kept already.
-        self._forms = Forms()
 
     @property
     def is_cut(self) -> bool:
@@ -61,12 +59,12 @@ class LineRoom:
         if not line.startswith(CHANGE):
             self.lacks_end = True
             return
-        form = self._forms.of(line)
+        change = change_line(parsed(line), line)
         # What decides on reports is open though a trusted pair accounts for it.
-        if form.account is Standing.TRUSTED or form.value(may_be_roots):
+        if change.account is Standing.TRUSTED or may_be_roots(change.fields):
             self.put(line)
         else:
-            self.others[(*form.counted, form.left_out)] += 1
+            self.others[(*change.counted, change.left_out)] += 1
 
     def end_of_kept(self, fields: Fields, end: EndCounts) -> bytes:
         """The last line, with the counts of what is kept."""

@@ -20,7 +20,8 @@ from aide_compare.compare.hints import column_names, column_notes, equal_notes, 
 from aide_compare.compare.hints import order_notes
 from aide_compare.compare.line_room import LineRoom
 from aide_compare.compare.unpack import Opened, copy_opened, open_database
-from aide_compare.lines.reader import ODD, end_of
+from aide_compare.lines.change import ODD
+from aide_compare.lines.reader import end_of
 
 MAX_CLOCKS_DIFFER = 600
 MIN_LINES = 1 << 12

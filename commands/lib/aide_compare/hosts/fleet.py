@@ -10,14 +10,15 @@ import hashlib
 import json
 from collections.abc import Iterable, Sequence
 
+from aide_compare.base.paths import key_of_path
 from aide_compare.base.words import SEVERITIES, SIDES
 from aide_compare.changes.severity import RANKS, Severity
 from aide_compare.changes.table import Table
-from aide_compare.changes.weighing import known_of
+from aide_compare.changes.weighing import Weights
 from aide_compare.hosts.report_values import SharedChange
 from aide_compare.lines.attributes import FORMS
-from aide_compare.lines.change import Fields
-from aide_compare.lines.reader import HEX, Outline
+from aide_compare.lines.change import ChangeLine, Fields
+from aide_compare.lines.reader import HEX
 from aide_compare.lines.rights import differing
 
 OWN = frozenset(["Bcount", "Atime", "Mtime", "Ctime", "Inode", "Linkcount"])
@@ -73,36 +74,35 @@ class Fleet:
     def __init__(self, names: Sequence[str]) -> None:
         self.names = names
         self.severity = Severity()
+        self.weights = Weights()
         self.table = Table()
         self.table.do(FOUND)
         self.table.do(FIRST)
 
-    def add(self, host: int, outline: Outline) -> None:
+    def add(self, host: int, change: ChangeLine) -> None:
         """Takes a change of the host with this number."""
-        form, path, key, line = outline
-        known = form.value(known_of)
-        directory, _, name = path.rpartition(b"/")
+        known = self.weights.of(change)
+        directory, _, name = change.path.rpartition(b"/")
         rank = self.severity.ranks(directory, known.held)(name)
-        # That it says a change is known by its form.
-        fields = differing(json.loads(line))
+        fields = differing(change.fields)
         word = fields.get("type", "Entry")
         own = OWN
         if word == "Directory":
             own = OWN | {"Size"}  # The size of a directory is one of these values, too.
         old, new = (fields.get(side, {}) for side in SIDES)
         labels = {name.removesuffix(HEX) for name in (*old, *new)}
-        what = (path, form.kind, word, rank // RANKS, known.owners)
+        what = (change.path, change.kind, word, rank // RANKS, known.owners)
         row = (
             host,
-            key,
+            key_of_path(change.path),
             directory,
             digest_of(what, sorted(labels - own), without(new, own)),
-            form.kind,
+            change.kind,
             known.owners,
             rank,
             digest_of(without(old, own)),
             ",".join(labels & own),
-            line,
+            change.line,
         )
         self.table.do(INSERT, *row)
 

@@ -14,8 +14,8 @@ from aide_compare.base.words import SIDES, age_in_words
 from aide_compare.compare.state import State, read_state
 from aide_compare.hosts.report_values import CUT, UNREADABLE, WHOLE, Host
 from aide_compare.hosts.store import LINES, HostDirectory, check_name
-from aide_compare.lines.change import Counts, Fields
-from aide_compare.lines.reader import ODD, Outline, Reader, Refused
+from aide_compare.lines.change import ODD, ChangeLine, Counts, Fields
+from aide_compare.lines.reader import Reader, Refused
 
 # What a disk says of a place that is damaged, and a file system of the network of a file that is
 # gone there.
@@ -62,7 +62,9 @@ def is_of_run(end: Fields, state: State, counts: Counts) -> bool:
     return is_same_pair and end.get("standings") == counts._asdict()
 
 
-def read_changes(directory: HostDirectory, host: Host, take: Callable[[Outline], object]) -> Host:
+def read_changes(
+    directory: HostDirectory, host: Host, take: Callable[[ChangeLine], object]
+) -> Host:
     """Gives each change in the lines that were kept of a host to `take`. Returns the host with what
     the lines are, and how many changes they have."""
     report = UNREADABLE
@@ -74,8 +76,8 @@ def read_changes(directory: HostDirectory, host: Host, take: Callable[[Outline],
     try:
         with open(descriptor, "rb", BLOCK) as file:
             lines = Reader(file)
-            for outline in lines.outlines():
-                take(outline)
+            for change in lines.changes():
+                take(change)
                 listed += 1
         if host.state and host.counts and is_of_run(lines.end, host.state, host.counts):
             report = CUT if listed < host.counts.to_read else WHOLE
@@ -93,7 +95,7 @@ def read_host(
     store: str,
     seconds: int,
     max_age: int,
-    take: Callable[[Outline], None] | None = None,
+    take: Callable[[ChangeLine], None] | None = None,
 ) -> Host:
     """Reads what a store keeps of a host, and gives each change to `take`, if there is one. No run
     is at work on the host then."""

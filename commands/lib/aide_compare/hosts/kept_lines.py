@@ -17,7 +17,7 @@ from aide_compare.changes.judged import Judged
 from aide_compare.changes.table import ORDER
 from aide_compare.compare.comparison import Comparison
 from aide_compare.lines.change import Counts
-from aide_compare.lines.reader import COUNTS_OF_END, Forms, Refused, reader_over
+from aide_compare.lines.reader import COUNTS_OF_END, Refused, reader_over
 from aide_compare.show.digest import rooms_of
 from aide_compare.show.json_lines import line_of
 
@@ -41,12 +41,11 @@ def kept_lines(judged: Judged, limit: int) -> Iterator[bytes]:
     for (level, owners, _), room in zip(parts, rooms):
         table.do(KEEP, level, owners, room)
     yield os.pread(judged.file.fileno(), judged.begin, 0)
-    forms = Forms()
     counted: Counter[str] = Counter()
-    for line_at, size, _ in table.marks("is_listed", order="place"):
-        line = judged.line(line_at, size)
-        counted.update(forms.of(line).counted)
-        yield line
+    for place, _, _ in table.marks("is_listed", order="place"):
+        change = judged.line(place)
+        counted.update(change.counted)
+        yield change.line
     yield end_line(judged, counted)
 
 

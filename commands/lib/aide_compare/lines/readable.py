@@ -11,6 +11,7 @@ import re
 import stat
 from collections.abc import Sequence
 from contextlib import suppress
+from functools import lru_cache
 from typing import NamedTuple
 
 from aide_compare.base.escapes import shown
@@ -187,8 +188,11 @@ _DECODERS = {
     "E2FSAttrs": flags_text,
     "Caps": capabilities_text,
 }
+# These have a text in place of the value.
+DECODED = frozenset(("Perm", *_DECODERS))
 
 
+@lru_cache(maxsize=1024)
 def decoded(label: str, value: Value, kind: str | None) -> str | None:
     """The value of an attribute (by its name in the details) of a file of this kind for people,
     None if nothing is to decode."""
@@ -216,7 +220,8 @@ def kinds_of(change: Change) -> Sequence[str | None]:
 
 def _side_texts(values: Values, kind: str | None) -> dict[str, str]:
     """The texts of a side by their labels."""
-    texts = {label: decoded(label, value, kind) for label, value in values.items()}
+    labels = DECODED & values.keys()
+    texts = {label: decoded(label, values[label], kind) for label in labels}
     return {label: text for label, text in texts.items() if text is not None}
 
 

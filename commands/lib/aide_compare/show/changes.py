@@ -1,7 +1,6 @@
 """A change as a text for people, with its values."""
 from __future__ import annotations
 
-import json
 import os
 from collections.abc import Collection, Iterator
 from typing import TYPE_CHECKING, NamedTuple
@@ -12,7 +11,7 @@ from aide_compare.base.files import BLOCK, reopened
 from aide_compare.base.paths import WILD, key_of_path
 from aide_compare.base.words import SIDES, date_of
 from aide_compare.lines.attributes import FORMS, STRENGTH, word_of
-from aide_compare.lines.change import Change, Value, change_of
+from aide_compare.lines.change import Change, Value, change_of, parsed
 from aide_compare.lines.readable import texts_of
 from aide_compare.show.json_lines import marked_lines
 
@@ -73,7 +72,7 @@ def changes_with_values(
     if judged and judged.only_counted:
         judged = None
     for line, marks in judged.lines() if judged else marked_lines(comparison.reader()):
-        change = change_of(json.loads(line))
+        change = change_of(parsed(line))
         if pattern.matches(change.path[1:].split(b"/")):
             lines = [f"{marks.standing} {marks.severity}".rstrip() + " "]
             lines += change_lines(change)

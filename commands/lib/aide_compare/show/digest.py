@@ -28,7 +28,7 @@ SIZE = " [0-9]+ bytes$"
 PART = f"{LISTED} and level = ? and owners = ?"
 IN_ORDER = f"select place, party, site from changes where {PART} order by {ORDER_OF_PART}"
 SIZES = f"""
-select level, owners, sum(size), sum(size) from counted where {LISTED}
+select level, owners, sum(size), sum(size) from numbers where {LISTED}
 group by 1, 2 having sum(size)
 """
 # The same, and how many lines the first of each host need, with those that count the others.

@@ -2,14 +2,13 @@
 standing."""
 from __future__ import annotations
 
-import json
 import os
 from collections.abc import Iterator
 from typing import TYPE_CHECKING
 
 from aide_compare.base.words import SIDES, TRUSTED_SIDES
 from aide_compare.changes.table import Marks
-from aide_compare.lines.change import Fields, Standing
+from aide_compare.lines.change import Fields, Standing, parsed
 from aide_compare.lines.reader import ENCODE, HEX, Reader
 
 if TYPE_CHECKING:
@@ -46,8 +45,8 @@ def end_of(reader: Reader, comparison: Comparison, judged: Judged | None) -> Fie
 
 def marked_lines(reader: Reader) -> Iterator[tuple[bytes, Marks]]:
     """The lines of a Reader, each with the standing of its change, as far as the line has it."""
-    for form, path, _, line in reader.outlines():
-        yield line, Marks((form.silent(path) or Standing.OPEN).value)
+    for change in reader.changes():
+        yield change.line, Marks((change.silent or Standing.OPEN).value)
 
 
 def line_of(fields: Fields) -> bytes:
@@ -59,7 +58,7 @@ def marked_line(line: bytes, marks: Marks) -> bytes:
     """A line of aide_lines with further members. Its own bytes stay if they are ASCII: a terminal
     could write other letters in another direction."""
     if not line.isascii():
-        line = line_of(json.loads(line))
+        line = line_of(parsed(line))
     return line[: -len(b"}\n")] + marks.members() + b"\n"
 
 

@@ -7,7 +7,6 @@ import base64
 import hashlib
 import json
 import os
-import re
 from collections.abc import Callable, Iterable, Iterator
 from html import escape
 from itertools import chain
@@ -28,10 +27,10 @@ from aide_compare.lines.change import (
     Value,
     Values,
     change_of,
+    parsed,
 )
 from aide_compare.lines.readable import texts_of
-from aide_compare.lines.reader import AFTER_PATH, HEX, VALUE, Forms, embedded
-from aide_compare.lines.rights import bytes_of, differing
+from aide_compare.lines.reader import embedded
 from aide_compare.show.json_lines import marked_lines
 from aide_compare.show.brief import brief_of
 
@@ -61,13 +60,6 @@ MAX_DIGEST = 200000
 MAX_NAME = 1000
 MAX_NOTES = 20
 BESIDE = len(b"[,],\n")
-# The beginning of a line whose path is printable ASCII of which nothing is escaped, in a row too.
-PLAIN = re.compile(rb'\{"kind":"[a-z]+","path":"/[ !#-;=-\[\]-~]{,4000}"')
-# Numbers in place of values, by which it is seen where these are put.
-MARK = 10**14
-MARKS = re.compile(b"10{11}[0-9]{3}")
-VALUE_TEXT = re.compile(b'[^:"]+')
-USUAL = re.compile(rb"[0-9A-Za-z+/=]*")  # Numbers and digests that are put there as they are.
 # Of a value of a host.
 MAX_VALUE = 100000
 MAX_NUMBER = 1 << 53  # A script would round it.
@@ -141,38 +133,15 @@ def values_of(values: Values, texts: Texts) -> Fields:
 
 
 def labels_of(*sides: Iterable[str]) -> str:
-    """The attributes that people read of a change, by the members that its sides have."""
-    names = {name.removesuffix(HEX) for side in sides for name in side}
+    """The attributes that people read of a change."""
+    names = set().union(*sides)
     return " ".join(label for label in FORMS if label in names)
-
-
-def labels_in(line: bytes) -> bytes:
-    """The same by its line, as a part of JSON."""
-    fields = differing({**json.loads(line), "kind": "changed"})
-    return embedded(labels_of(*(fields.get(side, ()) for side in SIDES)))
 
 
 def both_values(change: Change) -> Fields:
     """The values of both sides of a change."""
     texts = texts_of(change)
     return {"old": values_of(change.old, texts.old), "new": values_of(change.new, texts.new)}
-
-
-def values_in(line: bytes) -> bytes:
-    """The values of a change by its line, as a part of JSON."""
-    return embedded(both_values(change_of(json.loads(line))))
-
-
-def values_like(line: bytes) -> bytes:
-    """The same of all lines of its form, with %b for each number and digest; nothing if one of them
-    is not put there as it is."""
-    marks = [b"%d" % number for number in range(MARK, MARK + len(VALUE.findall(line)))]
-    each = iter(marks)
-    marked = VALUE.sub(lambda match: VALUE_TEXT.sub(next(each), match.group()), line)
-    text = values_in(marked)
-    if MARKS.findall(text) != marks:
-        return b""
-    return MARKS.sub(b"%b", text.replace(b"%", b"%%"))
 
 
 def row_of(change: Change, marks: Fields) -> list[Fields]:
@@ -186,24 +155,24 @@ class PageRows:
     """The rows of a page, those that matter most first: these have room first, and values go before
     heads."""
 
-    def __init__(self) -> None:
-        self.file = private_file()  # Of each change a line with its head, and then its own line.
-        self.forms = Forms()
+    def __init__(self, limit: int) -> None:
+        self.limit = limit  # Of the bytes of a page.
+        self.file = private_file()  # Of each change a line with its head, and one with its values.
         self.size = 0  # Of all heads.
+        self.values_size = 0
         self.count = 0
         self.listed = 0
         self.valued = 0
 
-    def add(self, line: bytes, marks: Marks) -> None:
-        row = line.partition(AFTER_PATH)[0]
-        if not PLAIN.fullmatch(row):
-            place = json.loads(row + b"}")
-            path = shown(bytes_of(place, "path"))
-            row = b'{"kind":%b,"path":%b' % (embedded(place["kind"]), embedded(path))
-        row += b',"labels":%b' % self.forms.of(line).value(labels_in) + marks.members()
-        self.file.write(row + b"\n" + line)
-        self.size += len(row) + BESIDE
+    def add(self, fields: Fields, marks: Marks) -> None:
+        head, values = map(embedded, row_of(change_of(fields), marks.known()))
+        self.size += len(head) + BESIDE
         self.count += 1
+        if self.values_size <= self.limit:
+            self.values_size += len(values)
+        else:  # No values have room any more.
+            values = b""
+        self.file.write(head + b"\n" + values + b"\n")
 
     def chosen(self, room: int) -> Iterator[bytes]:
         """Yields the rows for which there is room: of all changes the heads, if these take no more
@@ -211,29 +180,18 @@ class PageRows:
         for_values = max(room - self.size, room // 8)
         for_heads = room - for_values
         self.file.seek(0)
-        for head, line in zip(self.file, self.file):
-            row = head[:-1]
+        for head_line, values_line in zip(self.file, self.file):
+            row = head_line[:-1]
+            values = values_line[:-1]
             for_heads -= len(row) + BESIDE
             if for_heads < 0:
                 return
             self.listed += 1
+            for_values -= len(values) if values else for_values + 1
             if for_values >= 0:
-                values = self._values(line)
-                for_values -= len(values)
-                if for_values >= 0:
-                    self.valued += 1
-                    row += b"," + values
+                self.valued += 1
+                row += b"," + values
             yield b"[%s]" % row
-
-    def _values(self, line: bytes) -> bytes:
-        form = self.forms.of(line)
-        match = form.match(line)
-        text = form.value(values_like) if match else b""
-        if match and text:
-            values = match.groups()[1:]
-            if USUAL.fullmatch(b"".join(values)):
-                return text % values
-        return values_in(line)
 
     def remarks(self) -> list[str]:
         """What is missing."""
@@ -248,15 +206,15 @@ class PageRows:
         return remarks
 
 
-def lines_in_order(judged: Judged) -> Iterator[tuple[bytes, Marks]]:
-    """The lines of all changes with their marks, those that are read first before the others."""
+def changes_in_order(judged: Judged) -> Iterator[tuple[Fields, Marks]]:
+    """The objects of all changes with their marks, those that are read first before the others."""
     table = judged.table
-    for line_at, size, marks in chain(table.marks(LISTED), table.marks(RECORDED, order=BY_PACKAGE)):
-        yield judged.line(line_at, size), marks
+    for place, _, marks in chain(table.marks(LISTED), table.marks(RECORDED, order=BY_PACKAGE)):
+        yield judged.line(place).fields, marks
     if judged.counts.silent:
         for line, marks in judged.lines():
             if not marks.severity:
-                yield line, marks
+                yield parsed(line), marks
 
 
 def heading_of(comparison: Comparison, rows: PageRows, title: str) -> Fields:
@@ -292,9 +250,13 @@ def page_of(
     comparison: Comparison, judged: Judged | None, limit: int = MAX_PAGE
 ) -> Iterator[bytes]:
     """The page of a comparison."""
-    rows = PageRows()
-    for line, marks in lines_in_order(judged) if judged else marked_lines(comparison.reader()):
-        rows.add(line, marks)
+    rows = PageRows(limit)
+    if judged:
+        for fields, marks in changes_in_order(judged):
+            rows.add(fields, marks)
+    else:
+        for line, marks in marked_lines(comparison.reader()):
+            rows.add(parsed(line), marks)
     title = shown(f"File changes on {os.uname().nodename}")
     digest = "No differences\n"
     if comparison.differs:

@@ -20,8 +20,8 @@ def paths_of(comparison: Comparison) -> Iterator[tuple[str, bytes]]:
     """The kinds and paths of changes, as far as these are there and can be read: lines that were
     cut have no end, and why nobody has judged the changes may be a line."""
     with suppress(Exception):
-        for form, path, _, _ in reader_over(comparison.known_lines().fd).outlines():
-            yield form.kind, path
+        for change in reader_over(comparison.known_lines().fd).changes():
+            yield change.kind, change.path
 
 
 def first_paths(comparison: Comparison, limit: int) -> list[str]:
