@@ -218,7 +218,8 @@ class FleetTest(CommandTest):
         """What people see of a host's bytes, and processes that end without an answer."""
         failed = '"Host key verification failed." (ssh: status 255); '
         unknown = failed + "is its key in known_hosts?"
-        changed = failed + "its key differs from the one in known_hosts"
+        changed = failed + "its key differs from the one in known_hosts: if that is right, "
+        changed += "ssh-keygen -R changed"
         coloured = r'"a\033[31mb\302\233c" (ssh: status 1)'
         liar = '"0 no differences\' (ssh: status 0)" (ssh: status 1)'
         causes = {"unknown": unknown, "changed": changed, "coloured": coloured, "liar": liar}

@@ -71,7 +71,7 @@ class TextsTest(MailTest):
         for words in (*addresses, ["--weekly=Foo"], ["--mail-time", "x"], ["--mail-time", "0"]):
             self.assertEqual(misused(self, TOOL, "old.db", "new.db", *words)[0], 15, words)
         self.assertEqual((call(self, "old.db", "new.db", "more").status, sent(self)), (15, None))
-        said = b"two outputs have one place, such as standard output"
+        said = b"two outputs have one place: standard output"
         self.refused(15, said, TOOL, "--json=-", "--page=-", "old.db", "new.db", state="state")
         self.assertIn(said, body(sent(self)))
         with subprocess.Popen("true", stdin=subprocess.PIPE) as gone:

@@ -18,7 +18,7 @@ from aide_compare.lines.readable import texts_of
 from aide_compare.lines.rights import RIGHTS
 
 USAGE, CONFIGURATION, DEVICE = 15, 17, 18
-ONE_PLACE = b"two outputs have one place, such as standard output"
+ONE_PLACE = b"two outputs have one place: "
 # Databases of AIDE 0.18.3 with access control lists, extended attributes, flags and capabilities.
 OLD, NEW = (
     os.path.join(TOP, "tests", "commands", "viewers", "values", name)

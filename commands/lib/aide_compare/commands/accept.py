@@ -8,6 +8,7 @@ from collections.abc import Iterator, Sequence
 from contextlib import closing, suppress
 from typing import NamedTuple
 
+from aide_compare.base.directories import closed_after
 from aide_compare.base.ending import DeviceFault, Fault, Status, say, tell, usage_fault
 from aide_compare.base.escapes import shown
 from aide_compare.base.files import blocks_of, nameless
@@ -100,16 +101,25 @@ def accept(request: AcceptRequest) -> Accepted:
         return accept_opened(request, opened, baseline)
 
 
+def hints_of_digest(request: AcceptRequest, opened: Opened, descriptor: int) -> Iterator[str]:
+    """A line if a digest is that of the packed file."""
+    if opened.is_packed and opened.written is not None:
+        if Copy(descriptor, request.new, None).sha256.startswith(request.digest):
+            yield f"that is the digest of the packed file: zcat {shown(request.new)} | sha256sum"
+
+
 def accept_opened(request: AcceptRequest, opened: Opened, baseline: Baseline) -> Accepted:
     """The same with both open, the baseline locked."""
-    new = copy_opened(opened, request.max_size)
-    if not new.sha256.startswith(request.digest):
-        raise Fault(
-            Status.DATABASE,
-            f"refused: {shown(request.new)} is not the database that was reported",
-            f"the SHA-256 that was given: {request.digest}",
-            f"the SHA-256 of the database: {new.sha256}",
-        )
+    with closed_after(os.dup(opened.fd)) as descriptor:
+        new = copy_opened(opened, request.max_size)
+        if not new.sha256.startswith(request.digest):
+            raise Fault(
+                Status.DATABASE,
+                f"refused: {shown(request.new)} is not the database that was reported",
+                f"the SHA-256 that was given: {request.digest}",
+                f"the SHA-256 of the database: {new.sha256}",
+                *hints_of_digest(request, opened, descriptor),
+            )
     baseline.settle()
     former = former_digest(baseline, request.max_size)
     merged = None

@@ -142,6 +142,9 @@ def upgrades_of(old_copy: Copy, new_copy: Copy, request: ArchiveRequest) -> Upgr
     keys = in_memory(b"".join(keys_of(*each, (old, new)) for each in keyrings.items()))
     releases = releases_of(request.directories, old.indexes)
     if not releases:
+        for directory in request.directories:
+            if not os.path.isdir(directory):
+                raise DeviceFault(f"there is no directory {shown(directory, 200)}")
         raise DeviceFault("--from names no signed index", ADVICE)
     # dpkg keeps the list of a package of which it has left the configuration.
     came = new.whole - old.lists.keys() - old.sums.keys()

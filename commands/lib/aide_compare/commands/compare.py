@@ -3,13 +3,13 @@ from __future__ import annotations
 
 import os
 import re
-from collections.abc import Iterable, Sequence
+from collections.abc import Iterable, Iterator, Sequence
 from functools import partial
 from typing import TYPE_CHECKING
 
 from aide_compare.base import kinds
 from aide_compare.base.ending import Fault, ReaderGone, write_blocks
-from aide_compare.base.escapes import encoded, shown
+from aide_compare.base.escapes import encoded, guarded, shown
 from aide_compare.base.files import blocks_of
 from aide_compare.base.options import STATE, option
 from aide_compare.base.parser import Help, Parser, filled, read_defaults
@@ -62,8 +62,9 @@ class Printer:
     """Prints a comparison: first what there is to say beside it, then what was found, so that on a
     terminal nothing pushes that off the screen."""
 
-    def __init__(self, request: PrintRequest) -> None:
+    def __init__(self, request: PrintRequest, patterns: Sequence[str] = ()) -> None:
         self.request = request
+        self.patterns = patterns  # Of --exclude, on the command line.
         self.form = form_of(request)
         self.is_printed = self.form != NOTHING and not request.is_quiet
         place = partial(write_blocks, STDOUT, words="cannot write the report")
@@ -117,6 +118,9 @@ class Printer:
     def _notes(self, comparison: Comparison, judged: Judged | None) -> Iterable[bytes]:
         """What is not in a report: it names only the descriptors of the databases."""
         text = told_of(comparison, self.request.is_quiet, self.request.is_verbose)
+        if judged and not self.request.is_quiet:
+            notes = self._notes_of_list(comparison, judged)
+            text += "".join(f"aide-compare: {guarded(note)}\n" for note in notes)
         if self.is_printed and comparison.differs:
             exclusions = comparison.request.exclusions
             if self.form == REPORT and exclusions and exclusions.lines:
@@ -133,10 +137,32 @@ class Printer:
                 text += f"aide-compare: {comparison.standings.left_out_words()}\n"
         yield encoded(text)
 
+    def _notes_of_list(self, comparison: Comparison, judged: Judged) -> Iterator[str]:
+        """What a list does not do that somebody may expect: a pattern that leaves nothing out, and
+        with `-v` what no line leaves out."""
+        exclusions = comparison.request.exclusions
+        if exclusions is None:
+            return
+        for pattern in dict.fromkeys(self.patterns):
+            numbers = exclusions.numbers_of(pattern)
+            if not any(comparison.left_out.get(number) for number in numbers):
+                yield f"--exclude {shown(pattern, 200)} leaves out no change{hint_for(pattern)}"
+        if self.request.is_verbose:
+            from aide_compare.show.not_left_out import Reasons
+
+            yield from Reasons(exclusions).notes(judged)
+
     def _failure(self, comparison: Comparison, _judged: Judged | None) -> Iterable[bytes]:
         """Why nothing was compared. Who has gone needs no reason."""
         if comparison.has_failed and not isinstance(comparison.fault, ReaderGone):
             yield encoded(told_of(comparison, self.request.is_quiet, self.request.is_verbose))
+
+
+def hint_for(pattern: str) -> str:
+    """What names the contents of a directory."""
+    if pattern.endswith("/**"):
+        return ""
+    return f"; all that is in a directory: {shown(pattern.rstrip('/'), 200)}/**"
 
 
 def print_comparison(asked: type[PrintRequest], help: Help, arguments: Sequence[str]) -> int:
@@ -152,7 +178,7 @@ def print_comparison(asked: type[PrintRequest], help: Help, arguments: Sequence[
         defaults = read_defaults(arguments)
         request = with_defaults(asked, given, defaults)
         refuse_without_proof(request)
-        printer = Printer(request)
+        printer = Printer(request, own_request.exclude)
         job = printer.job(work_request(request, defaults), keeps_failure)
     except Fault as fault:
         keep_failure(own_request.state, fault)

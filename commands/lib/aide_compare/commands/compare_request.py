@@ -126,8 +126,9 @@ def refuse_names(request: CompareRequest) -> None:
     text = ""
     if len(databases) == 1:
         text = f"name both databases, OLD and NEW, or none, and not only {shown(databases[0], 200)}"
-        if request.paths:
-            text += f"; {shown(request.paths[0], 200)} is where an output goes (- prints it)"
+        files = [path for path in request.paths if descriptor_of(path) is None]
+        if files:
+            text += f"; {shown(files[0], 200)} is where an output goes (- prints it)"
     if len(databases) > 2:
         text = f"more than two databases: {shown(databases[-1], 200)}"
         if request.exclude:
@@ -150,14 +151,21 @@ def work_request(request: CompareRequest, defaults: Defaults) -> ComparisonInput
         raise Fault(Status.USAGE, "no databases are named", ADVICE)
     if [*request.databases, *request.trusted].count("-") > 1:
         raise Fault(Status.USAGE, "standard input can hold only one database")
-    if len(set(request.places)) < len(request.places):
-        raise Fault(Status.USAGE, "two outputs have one place, such as standard output")
+    places = request.places
+    for place in places:
+        if places.count(place) > 1:
+            name = "standard output" if place == STDOUT else f"{place}"
+            raise Fault(Status.USAGE, f"two outputs have one place: {shown(name, 200)}")
     old, new = request.databases
     others = (*request.trusted, *request.exclude_from, request.configuration or old)
     usual = (f"{DIRECTORY}/defaults", f"{DIRECTORY}/without")
     read = {os.path.realpath(path) for path in (old, new, *others, *usual)}
-    if read.intersection(request.places):
-        raise Fault(Status.USAGE, "an output is one of the files read, which would be replaced")
+    for path in request.paths:
+        if os.path.realpath(path) in read and descriptor_of(path) is None:
+            text = (
+                f"an output is one of the files read, which would be replaced: {shown(path, 200)}"
+            )
+            raise Fault(Status.USAGE, text)
     return ComparisonInput(
         old=old,
         new=new,

@@ -71,7 +71,8 @@ def comparison_defaults(
         note(f"there is no baseline {shown(named[0])}: as root, aide-compare setup makes it")
     missing = [path for path in values.get(TRUSTED.attribute, ()) if not os.path.lexists(path)]
     if missing:
-        note(f"there is no {shown(missing[0])} yet, so it accounts for no change")
+        if not (named and is_missing(named[0])):  # Without a baseline nothing is compared.
+            note(f"there is no {shown(missing[0])} yet, so it accounts for no change")
         del values[TRUSTED.attribute]
     return values
 

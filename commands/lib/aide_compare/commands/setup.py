@@ -11,7 +11,7 @@ from contextlib import suppress
 from functools import partial
 from typing import NamedTuple
 
-from aide_compare.base.ending import DeviceFault, Fault, Status, tell
+from aide_compare.base.ending import DeviceFault, Fault, Status, tell, usage_fault
 from aide_compare.base.escapes import shown
 from aide_compare.base.files import is_missing, reopened
 from aide_compare.base.replacement import replace
@@ -270,6 +270,10 @@ def tell_missing(machine: Machine) -> int:
 
 
 def main(arguments: Sequence[str]) -> int:
+    if "--dry-run" in arguments:
+        raise usage_fault(
+            "there is no --dry-run: --check says what is missing, and changes nothing"
+        )
     request = read(SetupRequest, arguments, HELP)
     if request.is_quiet:  # Also the programs that are run.
         os.dup2(os.open("/dev/null", os.O_WRONLY | os.O_CLOEXEC), 1)

@@ -25,6 +25,7 @@ from aide_compare.compare.unpack import Copy
 
 MAX_SHOWN = 200  # Characters of a line that are told.
 OPTION = b"--without="
+OF_OPTION = "--exclude"  # The place of a line that an option gave.
 # Linux has a limit for each argument, of which the last byte is a NUL.
 MAX_EXCLUSIONS_BYTES = (1 << 17) - 1 - len(OPTION)
 WHAT = "the file of --exclude-from"
@@ -63,6 +64,12 @@ class Exclusions(NamedTuple):
     @property
     def text(self) -> bytes:
         return b"\n".join(line.text for line in self.lines)
+
+    def numbers_of(self, pattern: str) -> Iterator[int]:
+        """The numbers of the lines that an option gave."""
+        for number, line in enumerate(self.lines, 1):
+            if line.place == OF_OPTION and line.text == os.fsencode(pattern):
+                yield number
 
     def fault_in(self, errors: bytes) -> Fault | None:
         """The fault of a line that the program has refused, None if it says of none."""
@@ -165,7 +172,7 @@ def read_exclusions(
     for pattern in patterns:
         if "\n" in pattern:
             raise Fault(Status.USAGE, f"--exclude has more than one line: {shown(pattern, 200)}")
-        lines.append(Line(os.fsencode(pattern), "--exclude"))
+        lines.append(Line(os.fsencode(pattern), OF_OPTION))
     texts.update(others)
     names = {}
     links: dict[bytes, bytes] = {}

@@ -9,7 +9,7 @@ from collections.abc import Iterable, Iterator, Mapping, Sequence
 from aide_compare.base.database import MAX_LINE, Kind, Layout
 from aide_compare.base.escapes import shown
 from aide_compare.base.files import reopened
-from aide_compare.base.words import SIDES
+from aide_compare.base.words import SIDES, minute_of
 from aide_compare.compare.configuration import ConfigurationTexts
 from aide_compare.compare.unpack import Copy
 
@@ -90,7 +90,11 @@ def hints_of(
     line = dict(enumerate(text.split(b"\n"), 1)).get(number, b"")
     if not line.strip():
         return [name]
-    return [name, f"line {number}: {shown(line, 200)}"]
+    hints = [name, f"line {number}: {shown(line, 200)}"]
+    if words == b"unknown attribute" and line.startswith(b"report_"):
+        option = line.partition(b"=")[0].strip()
+        hints.append(f"there is no option {shown(option, 40)}: see aide-compare.conf(5)")
+    return hints
 
 
 def column_names(database: int, numbers: Iterable[int]) -> list[str]:
@@ -121,7 +125,12 @@ def column_notes(skipped: Mapping[str, Sequence[str]]) -> Iterator[str]:
 def equal_notes(copies: Mapping[str, Copy]) -> Iterator[str]:
     """A line if both databases are the same bytes."""
     old, new = copies["old"], copies["new"]
-    if old.size == new.size and old.sha256 == new.sha256:
+    if old.size != new.size or old.sha256 != new.sha256:
+        return
+    if old.written is not None and new.written is not None and old.written > new.written:
+        date = minute_of(old.written)
+        yield f"accepted on {date}; AIDE has not run since: both databases are equal"
+    else:
         yield "both databases are equal, byte for byte: has AIDE written a new one?"
 
 

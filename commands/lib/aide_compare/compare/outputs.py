@@ -3,19 +3,24 @@ from __future__ import annotations
 
 import fcntl
 import os
+import zlib
 from collections.abc import Callable, Iterable
 from contextlib import suppress
 from functools import partial
 
-from aide_compare.base.ending import DeviceFault, write_all, write_blocks
+from aide_compare.base.directories import closed_after
+from aide_compare.base.ending import DeviceFault, Fault, Status, write_all, write_blocks
 from aide_compare.base.escapes import shown
-from aide_compare.base.files import PRIVATE, given_descriptor
+from aide_compare.base.files import PRIVATE, given_descriptor, open_regular
 from aide_compare.base.replacement import Replacement
+from aide_compare.compare.unpack import GZIP, WITH_GZIP_HEADER
 
 # A place: it takes bytes, and it is known before the work that this is possible.
 Output = Callable[[Iterable[bytes]], object]
 
 STDOUT = 1
+BEGIN = b"@@begin_db"
+MAX_HEAD = 4096
 STREAMS = {"-": STDOUT, "/dev/stdout": STDOUT, "/dev/stderr": 2}
 
 
@@ -42,8 +47,20 @@ def notes(blocks: Iterable[bytes]) -> None:
             write_all(2, block)
 
 
+def is_database(path: str) -> bool:
+    """Whether a file begins as a database of AIDE, plain or packed by gzip."""
+    with suppress(Fault, OSError, zlib.error), closed_after(open_regular(path)) as descriptor:
+        head = os.pread(descriptor, MAX_HEAD, 0)
+        if head.startswith(GZIP):
+            head = zlib.decompressobj(WITH_GZIP_HEADER).decompress(head, len(BEGIN))
+        return head.startswith(BEGIN)
+    return False
+
+
 def file_output(path: str, what: str, mode: int) -> Output:
-    """A file, which is replaced in one step."""
+    """A file, which is replaced in one step. One that is a database is refused: nobody means it."""
+    if is_database(path):
+        raise Fault(Status.USAGE, f"{what} would replace a database: {shown(path, 200)}")
     return Replacement(path, mode, what, makes_directory=False).begin().commit
 
 

@@ -62,12 +62,12 @@ def transfer(directory: HostDirectory, part: NewFile, limit: int) -> None:
     if status == NOT_STARTED and not errors:
         raise directory.fault("there is no program ssh")
     if status != 0:
-        raise directory.fault(cause_of(bytes(errors), status))
+        raise directory.fault(cause_of(directory.host, bytes(errors), status))
     if not os.fstat(part.fd).st_size:
         raise directory.fault("sent nothing; is AIDE still at work there?")
 
 
-def cause_of(errors: bytes, status: int) -> str:
+def cause_of(host: str, errors: bytes, status: int) -> str:
     """Why ssh has failed: the last line that it or the host has written, and what may help."""
     lines = [line for line in re.split(rb"[\r\n]+", errors) if line.strip()]
     text = "ssh gave no reason"
@@ -75,7 +75,8 @@ def cause_of(errors: bytes, status: int) -> str:
         text = '"{}"'.format(shown(lines[-1], 200).replace('"', "'"))
     hints = "".join(f"; {hint}" for words, hint in HINTS if words in text)
     if UNKNOWN_KEY in text and CHANGED_KEY in errors:
-        hints = "; its key differs from the one in known_hosts"
+        hints = "; its key differs from the one in known_hosts: if that is right, ssh-keygen -R "
+        hints += host
     return f"{text} (ssh: status {status}){hints}"
 
 

@@ -189,6 +189,7 @@ def compare(directory: HostDirectory, run: HostsRun) -> State:
         fault = directory.fault("what it sent needs too much memory", Status.MEMORY)
     except Exception as error:
         cause = fault_of(error)
-        fault = directory.fault(cause.text, cause.status)
+        # The name of the host says which directory it is, and a short text has no room for it.
+        fault = directory.fault(cause.text.replace(f" {directory.path}/", " "), cause.status)
     directory.not_compared(fault.text, fault.status)
     raise fault

@@ -2,6 +2,7 @@
 from __future__ import annotations
 
 import os
+import re
 from collections.abc import Collection, Iterator
 from typing import TYPE_CHECKING, NamedTuple
 
@@ -14,12 +15,16 @@ from aide_compare.lines.attributes import FORMS, STRENGTH, word_of
 from aide_compare.lines.change import Change, Value, change_of, parsed
 from aide_compare.lines.readable import texts_of
 from aide_compare.show.json_lines import marked_lines
+from aide_compare.show.not_left_out import TO_READ, Reasons
 
 if TYPE_CHECKING:
     from aide_compare.base.paths import Pattern
     from aide_compare.changes.judged import Judged
     from aide_compare.compare.comparison import Comparison
     from aide_compare.compare.unpack import Copy
+
+
+ESCAPED = rb"(?s)\\(.)"  # A byte of a pattern that means itself.
 
 
 def _shown(label: str, value: Value, text: str | None) -> str | None:
@@ -71,13 +76,18 @@ def changes_with_values(
     is_there = False
     if judged and judged.only_counted:
         judged = None
+    reasons = Reasons(comparison.request.exclusions)
     for line, marks in judged.lines() if judged else marked_lines(comparison.reader()):
-        change = change_of(parsed(line))
+        fields = parsed(line)
+        change = change_of(fields)
         if pattern.matches(change.path[1:].split(b"/")):
             lines = [f"{marks.standing} {marks.severity}".rstrip() + " "]
             lines += change_lines(change)
             if marks.package:
                 lines.append(f"    package    {guarded(marks.package)}\n")
+            reason = reasons.of(fields) if marks.standing in TO_READ else ""
+            if reason:
+                lines.append(f"    {guarded(reason)}\n")
             yield encoded("".join(lines))
             is_there = True
     if not is_there:
@@ -86,10 +96,11 @@ def changes_with_values(
 
 def why_none(comparison: Comparison, pattern: Pattern) -> str:
     """Why there is no change at the paths of a pattern."""
-    if WILD.search(pattern.text):
+    path = re.sub(ESCAPED, rb"\1", pattern.text)
+    if WILD.search(re.sub(ESCAPED, b"", pattern.text)):
         return "no change at these paths"
-    name = shown(pattern.text)
-    if any(has_path(comparison.copies[side], pattern.text) for side in SIDES):
+    name = shown(path)
+    if any(has_path(comparison.copies[side], path) for side in SIDES):
         return f"no change: all that AIDE measures of {name} is as before"
     return f"neither database has {name}: AIDE has no rule for it, or it is misspelt"
 
