@@ -103,6 +103,19 @@ def listed(title: str) -> list[tuple[str, str]]:
     return [(unescaped(line).strip('"'), below) for line, below in found]
 
 
+def shown_by(level: str, report: str) -> str:
+    """The part of the report with all that a level shows."""
+    at = LEVELS.index(level)
+    head, *lists, details, databases = re.split(r"(?=\n-+\n.*:\n-+\n)", report)
+    if level != "added_removed_entries":
+        details = re.sub(r"\n(?:File: /a|Directory: /b)\n(?:  .*\n)+", "", details)
+    if level == "changed_attributes":
+        details = re.sub(r"^  SHA256 .*\n.*\n", "", details, flags=re.M)
+    first, _, summary = head.partition("\n")
+    shown = [first + "\n", summary, databases, "".join(lists), details][: min(at, 4) + 1]
+    return "".join([*shown[:2], *shown[3:], *shown[2:3]])
+
+
 def fault_of(line: str) -> str | None:
     """The kind of the fault that a configuration of one line has by the definitions."""
     found = configuration.read(b"", line.encode(), b"", False)
@@ -219,18 +232,16 @@ class ShownTest(ScratchTest, ProgramTest):
         return self.write("old.db", PAIR[0]), self.write("new.db", PAIR[1])
 
     def test_reports(self) -> None:
-        """The reports in the page are those that the program writes, level for level."""
+        """The report in the page is that which the program writes, level for level."""
         parts = dict(re.findall(r'^\.\\" try: (\w+)\n\.Bd -literal\n(.*?)\.Ed$', PAGE, re.M | re.S))
-        self.assertEqual(list(parts), [*LEVELS, "lines"], "levels of the page")
+        named = re.findall(r"^\.It Cm (\w+)$", section(PAGE, "READING THE REPORT"), re.M)
+        self.assertEqual((named, list(parts)), (LEVELS, [LEVELS[-1], "lines"]), "levels")
         pair = self.put_pair()
         output = run(self.lines_program, ["-E", "-c", self.configuration(*pair)]).output_text
         lines = output.replace(self.root, "/var/lib/aide").splitlines(keepends=True)
         self.assertEqual(parts["lines"], lines[0] + lines[1])
-        order = ["minimal", "summary", "list_entries", "details", "database_attributes"]
-        shown: dict[str, str] = {}
         for level in LEVELS:
-            shown[level if level in order else "details"] = parts[level]
-            wanted = "".join(shown.get(part, "") for part in order)
+            wanted = shown_by(level, parts[LEVELS[-1]])
             conf = self.configuration(*pair, f"report_level={level}\n")
             done = run(self.program, ["-E", "-c", conf])
             output = done.output_text.replace(self.root, "/var/lib/aide")
