@@ -281,6 +281,14 @@ class AcceptPartlyTest(AcceptingTest):
         os.remove(self.path(BASE + "aide.db"))
         self.refuses(18, b"so nothing stays open", sha256(NEW), "--keep-open", "/a")
 
+    def test_unsound_merge(self) -> None:
+        """What is merged is read by the program before it becomes the baseline."""
+        fresh(self)
+        cut = "keep_open\nmerging = keep_open\ndef keep_open(*words):\n"
+        cut += "    merged = merging(*words)\n    os.ftruncate(merged.copy.fd, 60)\n"
+        self.after_import("commands.accept", cut + "    return merged\n")
+        self.refuses(24, b" is no sound database\n", sha256(NEW), *OPEN)
+
     def test_many(self) -> None:
         """Random databases against maps: the new one, with the old entries that stay open."""
         draw = random.Random(1)

@@ -57,6 +57,8 @@ LISTS_MASKED = entry(FILE, acl=acl_field(MASKED))
 OF_ANNA = entry(FILE, uid=ANNA)
 UNKNOWN = entry(FILE)._replace(permissions=None)
 OWNERLESS = entry(DIRECTORY, uid=None)
+NOBODYS = entry(FILE, uid=None)
+NOBODYS_FOR_ANNA = entry(0o100664, uid=None, gid=ANNA)
 # A change of rights wherever it is: the entry before, the entry now, and the level below /srv.
 RIGHTS: list[tuple[str, Side, Side, str]] = [
     ("a new file", None, entry(FILE, acl=acl_field(b"")), "medium"),
@@ -102,6 +104,7 @@ RIGHTS: list[tuple[str, Side, Side, str]] = [
     ("root's file for the same group", entry(0o100664, gid=5), entry(0o100660, gid=5), "medium"),
     ("what anna does with her file", OF_ANNA, entry(0o100664, uid=ANNA, gid=5), "medium"),
     ("a file whose owner is not known", entry(FILE, uid=None), OF_ANNA, "medium"),
+    ("what of no known owner a group may write", NOBODYS, NOBODYS_FOR_ANNA, "high"),
     ("root's file whose owner is not known now", entry(FILE), entry(FILE, uid=None), "high"),
     ("a mode that is not known", UNKNOWN, UNKNOWN, "high"),
     ("a mode that is not known now", entry(FILE), UNKNOWN, "high"),
