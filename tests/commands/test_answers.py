@@ -70,6 +70,13 @@ class AnswersTest(CommandTest):
         said = self.answered(7, None, None, TOOL, "--exclude", "/x", "--quiet", *pair)
         self.assertEqual(said.errors, b"")
 
+    def test_digests(self) -> None:
+        """Who wants to read what differs sees no digests, who accepts it by a script does."""
+        for words, count in (((), 0), (("-v",), 1), (("--report",), 0), (("--report", "-v"), 1)):
+            errors = self.call(TOOL, *words, "old.db", "new.db").errors
+            self.assertEqual(errors.count(b", SHA-256 " + sha256(NEW).encode()), count, words)
+            self.assertEqual(errors.count(b" database: "), 2, words)
+
     def test_accepted(self) -> None:
         """After `accept` both are equal, and AIDE is not asked for."""
         self.write("same.db", OLD)

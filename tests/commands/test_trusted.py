@@ -175,7 +175,8 @@ class TrustedTest(mail.MailTest):
         put(self)
         name = "can\x1b[31mary\n.db"
         self.write(name, self.read("canary-new.db"))
-        answer = self.call(TOOL, "--state", "state", "--trusted", "canary-old.db", name, *BOTH)
+        words = ("--state", "state", "--trusted", "canary-old.db", name, *BOTH)
+        answer = self.call(TOOL, "-v", *words)
         digest = sha256(self.read(name))
         line = (
             rb"aide-compare: trusted new database: can\\033\[31mary\\012\.db, written .*, SHA-256 "

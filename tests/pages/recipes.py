@@ -144,7 +144,7 @@ class Day:
             self.test.assertIn(b"both databases are equal, byte for byte", done.errors)
         else:
             self.test.assertRegex(done.output, rb"\A18 open \(4 high\) of 22 changes\n")
-            self.test.assertEqual(done.errors.count(b", SHA-256 "), 2, done)
+            self.test.assertEqual(done.errors.count(b" database: "), 2, done)
 
     def jobs(self) -> None:
         for name, commands in self.test.jobs():

@@ -20,7 +20,7 @@ class HandsTest(RecipesTest):
     def test_pair(self) -> None:
         self.put_files(example("old.db"), example("new.db"))
         done = self.recipe("pair")
-        self.assertEqual((done.status, done.error_text.count(", SHA-256 ")), (7, 2))
+        self.assertEqual((done.status, done.error_text.count(" database: ")), (7, 2))
         self.prints("pair", done.output_text)
         self.write("/etc/aide/compare.conf", "report_level=summary\n")
         done = self.recipe("options")

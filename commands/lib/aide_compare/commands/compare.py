@@ -126,10 +126,12 @@ class Printer:
             if self.form == REPORT and exclusions and exclusions.lines:
                 text += f"aide-compare: {NO_LIST}\n"
             for side, copy in comparison.copies.items():
-                line = f"{words_of_side(side)} database: {shown(copy.name)}, "
+                line = f"{words_of_side(side)} database: {shown(copy.name)}"
                 if copy.written is not None:
-                    line += f"written {date_of(copy.written)}, "
-                text += f"aide-compare: {line}SHA-256 {copy.sha256}\n"
+                    line += f", written {date_of(copy.written)}"
+                if self.request.is_verbose:
+                    line += f", SHA-256 {copy.sha256}"
+                text += f"aide-compare: {line}\n"
             is_brief = self.form == BRIEF and judged is not None
             if comparison.standings and not (is_brief and os.isatty(1)):
                 text += f"aide-compare: {comparison.standings.words()}\n"
