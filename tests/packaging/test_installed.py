@@ -25,7 +25,7 @@ START = (
     "/usr/local/bin/aide-compare mail --alarm-sent-is-success "
     "--queue /var/lib/aide-compare/daily/mail"
 )
-UNKNOWN = "a proved build: not known: no proof has noted that it built this file\n"
+UNKNOWN = "a proved build: not known: no record of a proof\n"
 
 
 @slow

@@ -10,7 +10,16 @@ from contextlib import closing, suppress
 from functools import partial
 from typing import TYPE_CHECKING, NamedTuple
 
-from aide_compare.base.ending import EXPECTED, Fault, Status, fault_of, say, why_of, write_all
+from aide_compare.base.ending import (
+    EXPECTED,
+    Fault,
+    Status,
+    fault_of,
+    say,
+    tell,
+    why_of,
+    write_all,
+)
 from aide_compare.base.escapes import encoded, guarded
 from aide_compare.base.kinds import unit_name
 from aide_compare.base.options import (
@@ -341,5 +350,6 @@ def main(arguments: Sequence[str]) -> int:
     if request.is_test:
         way = transport_for("a test", request.seconds, request.queue)
         deliver(way, short_mail(request, "test", TEST_TEXT))
+        tell(f"a test mail for {guarded(request.address)} is on its way: look whether it comes")
         return Status.OK
     return compare_and_mail(job)
