@@ -14,7 +14,7 @@ $(error $(PROGRAM) is not proved, so it is not packed)
 endif
 
 all:
-	$(if $(PROGRAM),,python3 -m tools.gate.built)
+	$(if $(PROGRAM),,python3 -B -m tools.gate.built)
 
 # The tests that prove nothing and take no minutes. tools/test proves all crates and runs all tests.
 check: all
