@@ -97,7 +97,6 @@ class TextsTest(MailTest):
         said = b"a test mail for root is on its way: look whether it comes\n"
         self.expect("a test mail", call(self, "--test"), 0, said, b"")
         self.assertEqual(subject(sent(self)), SUBJECT + "test")
-        self.assertEqual(subject(self.mail("--test", "--quiet", status=0)), SUBJECT + "test")
 
     def test_weekly(self) -> None:
         """A heartbeat comes once on its day, or a week after the last: the last result, notes."""
