@@ -28,7 +28,7 @@ PAGES = ("aide-compare-show", "aide-compare-sort", "check_aide_compare")
 # What packaging/install makes.
 MADE = {
     LINK: 0o777,
-    **{f"share/man/man1/{name}.1": 0o777 for name in PAGES},
+    **{f"share/man/man1/{name}.1": 0o644 for name in PAGES},
     **{path + ".build": 0o644 for path in PROGRAMS + NEWER},
     "share/bash-completion/completions/aide-compare": 0o644,
     "share/zsh/site-functions/_aide-compare": 0o644,
