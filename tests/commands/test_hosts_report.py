@@ -291,7 +291,9 @@ class HostsReportTest(CommandTest):
         text = self.mailed(hosts, "--attach-page").replace("=\n", "")
         self.assertIn(f"<title>{title}</title>", text)
         self.assertIn("This page has no room for 500 more changes", text)
-        self.after_import("commands.hosts_report", "def page(*_):\n    raise OSError(5, 'x')\n")
+        self.after_import(
+            "commands.hosts_report", "def hosts_page(*_):\n    raise OSError(5, 'x')\n"
+        )
         self.assertEqual(hosts.report("--to", "root", "--attach-page").status, 18)
         self.assertIn(": no report of hosts\n", self.read("mail").decode())
         none = self.write("none", b"# None.\n")

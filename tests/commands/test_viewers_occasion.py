@@ -19,7 +19,6 @@ from aide_compare.lines.rights import RIGHTS
 
 USAGE, CONFIGURATION, DEVICE = 15, 17, 18
 ONE_PLACE = b"two outputs have one place: "
-NO_OPTION = b"unrecognized arguments: "
 # Databases of AIDE 0.18.3 with access control lists, extended attributes, flags and capabilities.
 OLD, NEW = (
     os.path.join(TOP, "tests", "commands", "viewers", "values", name)
@@ -100,7 +99,11 @@ class OccasionTest(CommandTest):
             (DEVICE, b"cannot open", ["--json=lines", "/no"]),
         ):
             self.refused(status, said, "aide-compare", OLD, *more, state="state")
-        self.refused(USAGE, NO_OPTION, "aide-compare json", "--json=lines", OLD, NEW)
+        twice = ("--json=lines", "--json=others")
+        self.refused(USAGE, b"--json is given twice", "aide-compare", *twice, OLD, NEW)
+        for tool, option in (("json", "--json=lines"), ("page", "--page=page.html")):
+            unknown = b"unrecognized arguments: " + option.encode()
+            self.refused(USAGE, unknown, f"aide-compare {tool}", option, OLD, NEW)
         self.assertEqual(self.read("lines"), lines, "nothing was compared")
 
     def test_streams(self) -> None:
@@ -118,8 +121,9 @@ class OccasionTest(CommandTest):
     def test_refused(self) -> None:
         for status, errors, words in (
             (USAGE, b"name both databases", ["-"]),
-            (USAGE, NO_OPTION, ["--report", OLD, NEW]),
-            (USAGE, NO_OPTION, ["--only=/x", OLD, NEW]),
+            (USAGE, b"unrecognized arguments: --report", ["--report", OLD, NEW]),
+            (USAGE, b"unrecognized arguments: --only=/x", ["--only=/x", OLD, NEW]),
+            (USAGE, ONE_PLACE, ["--state=/dev/stdout", OLD, NEW]),
             (CONFIGURATION, b"aide: after:1: line not understood", ["-A", "x", OLD, NEW]),
             (DEVICE, b"more than 9 bytes", ["--max-size", "9", OLD, NEW]),
         ):

@@ -14,7 +14,7 @@ from tests.oracle.database import LINE_LIMIT
 
 from aide_compare.base.ending import Fault
 from aide_compare.base.files import in_memory
-from aide_compare.base.paths import key_of_path, path_of
+from aide_compare.base.paths import path_of
 from aide_compare.changes.judged import Judged
 from aide_compare.compare.line_room import LineRoom
 from aide_compare.compare.state import State
@@ -150,7 +150,9 @@ class KeptLinesTest(ModuleTest):
         """Each change is in its own directory, also behind others of the same form."""
         paths = ("/", "/srv", "/srv/a", "/srv/b", "/usr")
         table = Judged(reader_over(stream_of(*map(fields_of, paths)))).table
-        sites = [path_of(site) for (site,) in table.ask("select site from changes order by place")]
+        sites = [
+            path_of(site) for (site,) in table.ask("select directory from changes order by place")
+        ]
         self.assertEqual(sites, [b"", b"/", b"/srv", b"/srv", b"/"])
 
     def test_proved(self) -> None:

@@ -9,12 +9,12 @@ from tests.commands.units.calls import ModuleTest
 
 from aide_compare.base import parser
 from aide_compare.base.options import COMPARISON_DEFAULTS, MAIL_DEFAULTS, Option
-from aide_compare.base.parser import Values, read_defaults
+from aide_compare.base.parser import OptionValues, read_defaults
 from aide_compare.commands.compare_request import CompareRequest
 from aide_compare.commands.mail import MailJob, MailRequest, job_of
 
 
-def values_of(options: Sequence[Option]) -> Values:
+def values_of(options: Sequence[Option]) -> OptionValues:
     return read_defaults(()).values(options)
 
 

@@ -5,7 +5,7 @@ import importlib
 
 from tests.commands.units.calls import ModuleTest
 
-from aide_compare.base.options import Asked
+from aide_compare.base.options import Request
 from aide_compare.base.parser import filled
 from aide_compare.commands import front
 from aide_compare.commands.compare_request import OutputRequest
@@ -13,11 +13,11 @@ from aide_compare.commands.compare_request import OutputRequest
 MODULES = [*front.COMMANDS, *(f"hosts_{word}" for word in front.HOSTS)]
 
 
-def requests_of(module: str) -> list[type[Asked]]:
+def requests_of(module: str) -> list[type[Request]]:
     """The classes of requests that a module of commands has."""
     values = vars(importlib.import_module(f"aide_compare.commands.{module}")).values()
-    classes = [each for each in values if isinstance(each, type) and issubclass(each, Asked)]
-    return [each for each in classes if each not in (Asked, OutputRequest)]
+    classes = [each for each in values if isinstance(each, type) and issubclass(each, Request)]
+    return [each for each in classes if each not in (Request, OutputRequest)]
 
 
 class RequestsTest(ModuleTest):

@@ -14,7 +14,7 @@ from tests.lib.scratch import read
 
 from aide_compare.base.words import SEVERITIES
 from aide_compare.changes import severity
-from aide_compare.changes.severity import RANKS, Severity, held_by, shipped_table
+from aide_compare.changes.severity import RANKS, Severity, results_of, shipped_table
 from aide_compare.lines.rights import Rights, Side, owner_of_change
 
 TYPES = {0o10: "File", 0o4: "Directory", 0o12: "Link", 0o1: "FIFO"}
@@ -204,7 +204,7 @@ def lacking(old: Side, new: Side) -> Iterator[tuple[str, Side, Side]]:
 
 
 def rank_of(path: bytes, old: Side, new: Side, table: Severity = SHIPPED_TABLE) -> int:
-    return table.ranks(path.rpartition(b"/")[0], held_by(old, new))(path.rpartition(b"/")[2])
+    return table.ranks(path.rpartition(b"/")[0], results_of(old, new))(path.rpartition(b"/")[2])
 
 
 def level_of(path: bytes, old: Side, new: Side, table: Severity = SHIPPED_TABLE) -> str:

@@ -17,19 +17,19 @@ from aide_compare.base.paths import key_of_path
 from aide_compare.base.words import SEVERITIES
 from aide_compare.changes import table as tables
 from aide_compare.changes.severity import RANKS
-from aide_compare.changes.table import Table, Values
-from aide_compare.changes.weighing import directory_of, group_of_owner, party_of
+from aide_compare.changes.table import Table, ChangeRow
+from aide_compare.changes.weighing import directory_of, group_of_owner, user_number
 from aide_compare.compare import outputs
 from aide_compare.show.digest import MAIL, digest
 
 
-def change(path: bytes, owner: int = 0, severity: str = "high") -> Values:
+def change(path: bytes, owner: int = 0, severity: str = "high") -> ChangeRow:
     key = key_of_path(path)
-    place = (group_of_owner(owner), SEVERITIES.index(severity) * RANKS, party_of(owner))
+    place = (group_of_owner(owner), SEVERITIES.index(severity) * RANKS, user_number(owner))
     return key, directory_of(key), "changed", *place, "", 0, 0
 
 
-def table_of(*changes: Values) -> Table:
+def table_of(*changes: ChangeRow) -> Table:
     table = Table()
     table.add(changes)
     return table

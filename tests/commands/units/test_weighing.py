@@ -10,8 +10,8 @@ from tests.commands.units.streams import line_of
 from aide_compare.base.paths import key_of_path
 from aide_compare.changes.severity import Severity
 from aide_compare.changes import weighing
-from aide_compare.changes.weighing import MAX_LINE, Known, Weights, directory_of, group_of_owner
-from aide_compare.changes.weighing import is_content, known_of, party_of
+from aide_compare.changes.weighing import MAX_LINE, Weight, Weights, directory_of, group_of_owner
+from aide_compare.changes.weighing import is_content, weight_of, user_number
 from aide_compare.lines.change import change_line, change_of
 from aide_compare.lines.rights import differing, rights_of
 
@@ -35,11 +35,11 @@ def fields_of(letters: str = SAME, **sides: dict[str, Any]) -> dict[str, Any]:
     return {"kind": kind, "path": PATH, "summary": letters, **sides}
 
 
-def weighed(weights: Weights, fields: dict[str, Any]) -> tuple[Known, int]:
+def weighed(weights: Weights, fields: dict[str, Any]) -> tuple[Weight, int]:
     """What is known of a line, which is what nothing is remembered for, and its rank."""
     known = weights.of(change_line(fields, line_of(fields)))
-    assert known == known_of(fields), fields
-    return known, Severity().ranks(b"/srv", known.held)(b"x")
+    assert known == weight_of(fields), fields
+    return known, Severity().ranks(b"/srv", known.results)(b"x")
 
 
 class WeighingTest(ModuleTest):
@@ -66,7 +66,7 @@ class WeighingTest(ModuleTest):
         for side in (OLD, {**OLD, "Pad": "x" * MAX_LINE}):
             again = weighed(weights, fields_of(letters, old=side, new=set_id))
             self.assertEqual(again, came, "known, or too long to be kept")
-        self.assertEqual((came[0].party, came[0].asked), (0, ""))
+        self.assertEqual((came[0].user, came[0].recordable), (0, ""))
         self.assertEqual(len(weights._known), 2)
         with mock.patch.object(weighing, "MAX_KNOWN", 3):
             for number in (1, 2, 3):
@@ -132,15 +132,15 @@ class WeighingTest(ModuleTest):
         """Whose an entry is, as far as its number says it, and in which directory it is."""
         most = (1 << 63) - 1
         for owner, *known in ((0, 0, 0), (999, 1, 999), (1000, 2, 1000), (most + 1, 2, most)):
-            self.expect(f"user {owner}", [group_of_owner(owner), party_of(owner)], known)
-        self.expect("no user", (group_of_owner(None), party_of(None)), (0, -1))
+            self.expect(f"user {owner}", [group_of_owner(owner), user_number(owner)], known)
+        self.expect("no user", (group_of_owner(None), user_number(None)), (0, -1))
         for path, above in ((b"/", b""), (b"/a", b"/"), (b"/a/b/c", b"/a/b")):
             self.gives(key_of_path(above), directory_of, key_of_path(path))
 
     def test_content(self) -> None:
         """Nothing but a content, or the target of a link, by the letters of what differs."""
         weights = Weights()
-        for label, letters, word, asked in (
+        for label, letters, word, recordable in (
             ("a content", "f.>b....mci.H.....", "File", "content"),
             ("a content of a file without flags", "f>>b....mci.H    .", "File", ""),
             ("where a link points", "ll>b....mci..     ", "Link", "target"),
@@ -153,8 +153,8 @@ class WeighingTest(ModuleTest):
         ):
             old, new = ({**side, "Type": word} for side in (OLD, NEW))
             changed = fields_of(letters, old=old, new=new)
-            self.expect(label, is_content(changed, word == "Link"), bool(asked))
-            self.expect(f"asked: {label}", weighed(weights, changed)[0].asked, asked)
+            self.expect(label, is_content(changed, word == "Link"), bool(recordable))
+            self.expect(f"recordable: {label}", weighed(weights, changed)[0].recordable, recordable)
         for more in (fields_of(old=OLD, new=GREATER), fields_of(old=GREATER, new=OLD)):
             self.expect("a digest on one side alone", is_content(more, False), False)
         self.expect("an entry that came", is_content(fields_of("f", new=NEW), False), True)
@@ -170,4 +170,4 @@ class WeighingTest(ModuleTest):
             ("another user's new directory", fields_of(new={**FOLDER, "UID": 1}), False),
             ("a file that went", fields_of(old=PLAIN), False),
         ):
-            self.expect(label, weighed(weights, fields)[0].asked == "content", is_it)
+            self.expect(label, weighed(weights, fields)[0].recordable == "content", is_it)

@@ -14,7 +14,7 @@ from aide_compare.changes.table import Marks
 from aide_compare.compare.comparison import Comparison, ComparisonInput, Lines
 from aide_compare.lines.reader import NOTHING_COUNTED
 from aide_compare.show.json_lines import added_lines
-from aide_compare.show.page import MAX_PAGE, PageRows, page
+from aide_compare.show.page import MAX_PAGE, PageRows, whole_page
 
 Fields = dict[str, Any]
 # A comparison that knows nothing beside its lines.
@@ -51,7 +51,7 @@ def page_over(objects: list[Fields], limit: int = MAX_PAGE) -> bytes:
     database = {"side": "Old database", "name": "/a", "time": "", "sha256": "00"}
     heading: Fields = {"title": "File changes", "outcome": "", "databases": [database]}
     heading.update(counts=[["open", 1]], remarks=[], facts=[], lists=[])
-    return b"".join(page("File changes", "digest", rows.chosen(limit), lambda: heading))
+    return b"".join(whole_page("File changes", "digest", rows.chosen(limit), lambda: heading))
 
 
 # The rights that a line has of both sides, by their letters in the summary string; and the letters

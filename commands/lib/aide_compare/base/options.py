@@ -81,7 +81,7 @@ VERBOSE = Option(
 )
 
 
-class Asked:
+class Request:
     """What a command line asks for. The rows of a subclass are its options and operands, and its
     instances have a value of each, and nothing else."""
 
@@ -235,7 +235,7 @@ HOSTS_OPTION = Option(
 )
 
 
-class HostsAsked(Asked):
+class StoreRequest(Request):
     """What all commands over hosts are asked for."""
 
     store: str = option("--store", f"where the databases are kept ({STORE})", "DIR", default=STORE)

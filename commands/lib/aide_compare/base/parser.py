@@ -23,15 +23,15 @@ from aide_compare.base.options import (
     COMPARISON_DEFAULTS,
     MAIL_DEFAULTS,
     NO_DEFAULTS,
-    Asked,
+    Request,
     Operand,
     Option,
 )
 
 # What a command line gives, by the fields of a request, or the lines of the defaults, by the names
 # that the options have once they are parsed.
-Values = dict[str, Any]
-Asks = TypeVar("Asks", bound=Asked)
+OptionValues = dict[str, Any]
+AnyRequest = TypeVar("AnyRequest", bound=Request)
 
 OPERAND = "\0"  # Before a word that follows --. No argument has this byte.
 DIRECTORY = "/etc/aide-compare"
@@ -125,7 +125,7 @@ class Help(NamedTuple):
 class Parser(argparse.ArgumentParser):
     """The parser of what a command is asked for. Faults have the status 15."""
 
-    def __init__(self, asked: type[Asked], help: Help) -> None:
+    def __init__(self, asked: type[Request], help: Help) -> None:
         super().__init__(
             prog=help.name,
             description=help.description,
@@ -146,7 +146,7 @@ class Parser(argparse.ArgumentParser):
             names = [each for each in (row.letter, row.name) if each]
             self.add_argument(*names, **words_of_option(row, field))
 
-    def parse(self, arguments: Sequence[str]) -> Values:
+    def parse(self, arguments: Sequence[str]) -> OptionValues:
         """What the arguments give; options and operands may stand in any order, and after -- there
         are operands only."""
         cut = end_of_options(arguments)
@@ -164,16 +164,16 @@ class Parser(argparse.ArgumentParser):
 
 
 def read(
-    asked: type[Asks], words: Sequence[str], help: Help, defaults: Values | None = None
-) -> Asks:
+    asked: type[AnyRequest], words: Sequence[str], help: Help, defaults: OptionValues | None = None
+) -> AnyRequest:
     """What the words of a command line ask for, and the defaults where they say nothing."""
     return filled(asked, Parser(asked, help).parse(words), defaults or {})
 
 
-def filled(asked: type[Asks], given: Values, defaults: Values) -> Asks:
+def filled(asked: type[AnyRequest], given: OptionValues, defaults: OptionValues) -> AnyRequest:
     """What a command line asks for that gives these values, and the defaults where it gives none. A
     list has those of both."""
-    values: Values = {}
+    values: OptionValues = {}
     for field, row in asked.rows().items():
         if isinstance(row, Operand):
             values[field] = given[field] or defaults.get(field, row.default)
@@ -213,10 +213,10 @@ class Defaults(NamedTuple):
     file: tuple[str, bytes] | None = None  # Its path and its text; None if there is none.
     lines: Sequence[DefaultLine] = ()
 
-    def values(self, options: Iterable[Option], passes_faults: bool = False) -> Values:
+    def values(self, options: Iterable[Option], passes_faults: bool = False) -> OptionValues:
         """What the lines give these options. Lines with a fault can be passed over; otherwise one
         of these options, or of none, is a Fault."""
-        values: Values = {}
+        values: OptionValues = {}
         wanted = {option.name for option in options}
         for option, value, fault in self.lines:
             if option and option.name not in wanted:
@@ -238,7 +238,7 @@ def read_defaults(words: Sequence[str]) -> Defaults:
     if path is None:
         return Defaults(True)
     file = (path, trusted_text(path, DEFAULTS))
-    parser = Parser(Asked, Help("", ""))
+    parser = Parser(Request, Help("", ""))
     parser.add_rows({option.attribute: option for option in MAY_BE_DEFAULTS.values()})
     return Defaults(True, file, [line_of(parser, *line) for line in lines_of(*file, DEFAULTS)])
 

@@ -18,7 +18,7 @@ from aide_compare.base.paths import key_of_path
 from aide_compare.base.words import SEVERITIES, counted, status_of_counts
 from aide_compare.changes.recorded import Dpkg, Matcher, Rpm
 from aide_compare.changes.severity import Severity
-from aide_compare.changes.table import Marks, Table, Values
+from aide_compare.changes.table import Marks, Table, ChangeRow
 from aide_compare.changes.weighing import OTHERS, Weights, directory_of, is_of_directory
 from aide_compare.compare.line_room import NO_OTHERS, Others
 from aide_compare.lines.change import Change, ChangeLine, Counts, Standing
@@ -31,9 +31,9 @@ COUNTS = "select standing, level, kind, sum(size) from numbers group by 1, 2, 3"
 TITLES = ("Unsigned packages", "New packages", "Removed packages")
 MAX_MEMBERS = 1000
 # So many changes are parsed once and no more, unless their lines are long.
-MAX_KEPT = 1000
+MAX_KEPT = 400
 MAX_LINE = 1 << 11
-MAX_NAME = 100
+MAX_MEMBER_NAME = 100
 # The files of a package among dpkg's records.
 NAMING = rb".*/([A-Za-z0-9][A-Za-z0-9+.-]*)(?::[a-z0-9-]+)?\.(list|md5sums)"
 
@@ -80,7 +80,7 @@ class Judged:
             words = counted(self.only_counted, "change")
             yield f"{words} in which no side is root's are only counted: there are too many"
 
-    def _values(self, reader: Reader) -> Iterator[Values]:
+    def _values(self, reader: Reader) -> Iterator[ChangeRow]:
         """Yields the values of the changes that are not silent, and counts all."""
         severity = Severity()
         weights = Weights()
@@ -99,13 +99,13 @@ class Judged:
                 if place <= MAX_KEPT and size <= MAX_LINE:
                     self._kept[place] = change
                 directory, _, name = change.path.rpartition(b"/")
-                held, owners, party, asked, has_other_links = weights.of(change)
-                rank = severity.ranks(directory, held)(name)
+                results, owners, user, recordable, has_other_links = weights.of(change)
+                rank = severity.ranks(directory, results)(name)
                 if has_other_links and len(self.members) < MAX_MEMBERS:
                     self.members[change.path] = ""
                 key = key_of_path(change.path)
-                site = directory_of(key)
-                yield key, site, change.kind, owners, rank, party, asked, line_at, size
+                above = directory_of(key)
+                yield key, above, change.kind, owners, rank, user, recordable, line_at, size
             line_at += size
 
     def _note_member(self, change: ChangeLine) -> None:
@@ -114,11 +114,11 @@ class Judged:
         above, _, name = change.path.rpartition(b"/")
         is_member = change.kind != "changed" and is_of_directory(change.fields)
         if is_member and self.members.get(above) == "":
-            self.members[above] = f"{change.kind} {shown(name, MAX_NAME)} (left out)"
+            self.members[above] = f"{change.kind} {shown(name, MAX_MEMBER_NAME)} (left out)"
 
     @cached_property
     def counts(self) -> Counts:
-        """The counts of all. They are asked for when the changes are grouped."""
+        """The counts of all. They are recordable for when the changes are grouped."""
         numbers = self.silent.copy()
         kinds = set()
         for standing, level, kind, size in self.table.ask(COUNTS):
@@ -175,7 +175,7 @@ def named_packages(changes: Table, has_pair: bool) -> dict[str, list[str]]:
     digests are not as in it: by their titles, in the order in which people read them."""
     named: dict[str, dict[str, None]] = {title: {} for title in TITLES}
     unsigned, new, removed = named.values()
-    for path, kind in changes.paths("site = ?", key_of_path(b"/var/lib/dpkg/info")):
+    for path, kind in changes.paths("directory = ?", key_of_path(b"/var/lib/dpkg/info")):
         if match := re.fullmatch(NAMING, path):
             name = shown(match[1], 100)
             if kind == "removed":

@@ -153,7 +153,7 @@ TESTS: dict[str, Callable[[Side, Side], bool]] = {
 }
 
 
-class Held(NamedTuple):
+class TestResults(NamedTuple):
     """What the rights of an entry on both sides mean: the bits of the tests that hold, and whether
     somebody has other rights on the programs in it, a directory."""
 
@@ -161,18 +161,18 @@ class Held(NamedTuple):
     opens_programs: bool
 
 
-def held_by(old: Side, new: Side) -> Held:
+def results_of(old: Side, new: Side) -> TestResults:
     """What the rights of an entry on both sides mean."""
     held = sum(BITS[word] for word, test in TESTS.items() if test(old, new))
     opens = BITS["changed"] | BITS["directory"]
-    return Held(held, held & (opens | BITS["same-rights"]) == opens)
+    return TestResults(held, held & (opens | BITS["same-rights"]) == opens)
 
 
 # The bit of each test in a number that says which hold.
 BITS = {word: 1 << place for place, word in enumerate(TESTS)}
 
 
-class Row(NamedTuple):
+class Rule(NamedTuple):
     """One pattern of a line: the rank, by the level and the line's place in the table, and the bits
     of the tests, which all have to hold."""
 
@@ -181,18 +181,18 @@ class Row(NamedTuple):
     pattern: Pattern
 
 
-class Inside:
+class DirectoryRules:
     """What rows may say of the entries of a directory: each with the places in its pattern where
     the path of the directory is."""
 
-    def __init__(self, rows: list[tuple[Row, tuple[int, ...]]]) -> None:
+    def __init__(self, rows: list[tuple[Rule, tuple[int, ...]]]) -> None:
         self.rows = rows
         # What tests the next piece of a path. Most pieces pass none, and these are all alike.
         self.steps = {row.pattern.tests[place] for row, places in rows for place in places}
-        self.other: Inside | None = None
+        self.other: DirectoryRules | None = None
 
     @lru_cache(maxsize=256)
-    def below(self, piece: bytes) -> Inside:
+    def below(self, piece: bytes) -> DirectoryRules:
         """The same of a directory in this one."""
         passes = any(step and step(piece) for step in self.steps)
         if self.other and not passes:
@@ -200,7 +200,7 @@ class Inside:
         after = ((row, row.pattern.after(places, piece)) for row, places in self.rows)
         rows = [(row, places) for row, places in after if places]
         # As in most directories that are deep.
-        inside = self if rows == self.rows else Inside(rows)
+        inside = self if rows == self.rows else DirectoryRules(rows)
         if not passes:
             self.other = inside
         return inside
@@ -240,10 +240,12 @@ class Severity:
     def __init__(self, table: tuple[str, bytes] | None = None) -> None:
         lines = lines_of(*(table or shipped_table()), WHAT)
         rows = [self._rows(number, *line) for number, line in enumerate(lines)]
-        self.top = Inside([(row, tuple(row.pattern.reached(0))) for each in rows for row in each])
+        self.top = DirectoryRules(
+            [(row, tuple(row.pattern.reached(0))) for each in rows for row in each]
+        )
 
     @staticmethod
-    def _rows(number: int, line: bytes, place: str) -> Iterator[Row]:
+    def _rows(number: int, line: bytes, place: str) -> Iterator[Rule]:
         parts = line.split()
         level = parts.pop(0).decode("ascii", "replace")
         if len(parts) < 2 or level not in SEVERITIES:
@@ -256,9 +258,9 @@ class Severity:
         tests = sum(BITS[word] for word in set(words))
         for part in parts[1:]:
             rank = SEVERITIES.index(level) * RANKS + number
-            yield Row(rank, tests, pattern_of(part, place))
+            yield Rule(rank, tests, pattern_of(part, place))
 
-    def ranks(self, directory: bytes, held: Held) -> Callable[[bytes], int]:
+    def ranks(self, directory: bytes, held: TestResults) -> Callable[[bytes], int]:
         """What says by the name of an entry in this directory how much a change of it matters, by
         what its rights mean.
 
@@ -274,7 +276,7 @@ class Severity:
             rank = first_rank(tests, name)
             if not held.opens_programs:
                 return rank
-            programs = self._in(directory + b"/" + name, held_by(PROGRAM, PROGRAM).tests)
+            programs = self._in(directory + b"/" + name, results_of(PROGRAM, PROGRAM).tests)
             return min(rank, first_rank(programs, b"*"))
 
         return rank_of

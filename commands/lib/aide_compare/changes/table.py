@@ -18,8 +18,8 @@ from aide_compare.lines.reader import embedded
 MAX_ROWS = 1000000
 SCHEMA = f"""
 create table changes (
-    place integer primary key, path_key blob, site blob, kind text, owners integer, rank integer,
-    party blob, asked text, line_at integer, line_size integer, hosts integer default 1,
+    place integer primary key, path_key blob, directory blob, kind text, owners integer, rank integer,
+    user blob, recordable text, line_at integer, line_size integer,
     standing text default 'open', package text default '', is_listed integer default false,
     level integer as (rank / {RANKS})
 )"""
@@ -31,14 +31,14 @@ create view numbers as
 select standing, level, owners, kind, count(*) as size from changes group by 1, 2, 3, 4
 union all select 'open', level, owners, kind, size from beyond"""
 # What a change is inserted with.
-Values = tuple[bytes, bytes, str, int, int, int, str, int, int]
+ChangeRow = tuple[bytes, bytes, str, int, int, int, str, int, int]
 INSERT = """
-insert into changes (path_key, site, kind, owners, rank, party, asked, line_at, line_size)
+insert into changes (path_key, directory, kind, owners, rank, user, recordable, line_at, line_size)
 values (?, ?, ?, ?, ?, ?, ?, ?, ?)"""
 # What people read first. Of one severity that is what is root's, then what is a service's; what the
-# fewest of many hosts have; what the first line of the table of severities means, such as set-ID
-# bits; what was removed or changed before what was added; and then the path has the last word.
-ORDER_OF_PART = "hosts, rank, kind = 'added', place"
+# first line of the table of severities means, such as set-ID bits; what was removed or changed
+# before what was added; and then the path has the last word.
+ORDER_OF_PART = "rank, kind = 'added', place"
 ORDER = f"level, owners, {ORDER_OF_PART}"
 LISTED = "standing = 'open'"
 RECORDED = "standing = 'recorded'"
@@ -74,12 +74,12 @@ class Table(Rows):
     def __len__(self) -> int:
         return int(next(self.ask("select coalesce(max(place), 0) from changes"))[0])
 
-    def add(self, changes: Iterable[Values]) -> int:
+    def add(self, changes: Iterable[ChangeRow]) -> int:
         """Takes changes in the order of paths. If there are too many, only those take part that may
         be root's; of all others it returns the number. A Fault if root's are too many."""
         others: Counter[tuple[str, int, int]] = Counter()
 
-        def kept() -> Iterator[Values]:
+        def kept() -> Iterator[ChangeRow]:
             size = 0
             for values in changes:
                 _, _, kind, owners, rank, *_ = values

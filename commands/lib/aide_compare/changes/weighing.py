@@ -7,7 +7,7 @@ from typing import NamedTuple
 
 from aide_compare.base.database import SET_ID
 from aide_compare.base.paths import SLASH
-from aide_compare.changes.severity import Held, has_same_rights, held_by
+from aide_compare.changes.severity import TestResults, has_same_rights, results_of
 from aide_compare.lines.change import ChangeLine, Fields
 from aide_compare.lines.reader import HEX
 from aide_compare.lines.rights import PLACES, ROOT, Rights, Side, owner_of_change, rights_of
@@ -28,14 +28,14 @@ CONTENT = r"[^!][. ]..[. ]{3}....[. ].[. ]{5}"
 TARGET = r"[^!]...[. ]{3}....[. ]{7}"
 
 
-class Known(NamedTuple):
+class Weight(NamedTuple):
     """What a line says of how much its change matters: the same for all lines with these rights."""
 
-    held: Held
+    results: TestResults
     owners: int  # The group of its owner.
-    party: int  # The number of the user who may have many such changes.
+    user: int  # The number of the user who may have many such changes.
     # What records could say of the entry: its "content", or the "target" of a link; or nothing.
-    asked: str
+    recordable: str
     has_other_links: bool  # A directory that has another number of links than before.
 
 
@@ -56,7 +56,7 @@ def group_of_owner(owner: int | None) -> int:
     return OTHERS
 
 
-def party_of(owner: int | None) -> int:
+def user_number(owner: int | None) -> int:
     """The number of a user, as SQLite has numbers; UNKNOWN if it was not measured."""
     if owner is None:
         return UNKNOWN
@@ -71,25 +71,27 @@ def may_be_content(old: Side, new: Rights) -> bool:
     return has_same_rights(old, new)
 
 
-def known_of(fields: Fields) -> Known:
+def weight_of(fields: Fields) -> Weight:
     """What is known by the object of a line."""
     old, new = rights_of(fields)
     owner = owner_of_change(old, new)
-    asked = ""
+    recordable = ""
     if new is not None and may_be_content(old, new) and is_content(fields, new.is_link):
-        asked = "target" if new.is_link else "content"
+        recordable = "target" if new.is_link else "content"
     other_links = fields["kind"] == "changed" and LINKS in fields["new"]
     has_other_links = other_links and is_of_directory(fields)
-    return Known(held_by(old, new), group_of_owner(owner), party_of(owner), asked, has_other_links)
+    return Weight(
+        results_of(old, new), group_of_owner(owner), user_number(owner), recordable, has_other_links
+    )
 
 
 class Weights:
     """What is known by lines, remembered by the members that it depends on."""
 
     def __init__(self) -> None:
-        self._known: dict[object, Known] = {}
+        self._known: dict[object, Weight] = {}
 
-    def of(self, change: ChangeLine) -> Known:
+    def of(self, change: ChangeLine) -> Weight:
         fields = change.fields
         old = fields.get("old")
         new = fields.get("new")
@@ -101,7 +103,7 @@ class Weights:
         )
         known = self._known.get(key)
         if known is None:
-            known = known_of(fields)
+            known = weight_of(fields)
             if len(self._known) < MAX_KNOWN and len(change.line) <= MAX_LINE:
                 self._known[key] = known
         return known

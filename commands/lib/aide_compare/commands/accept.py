@@ -12,7 +12,7 @@ from aide_compare.base.directories import closed_after
 from aide_compare.base.ending import DeviceFault, Fault, Status, say, tell, usage_fault
 from aide_compare.base.escapes import shown
 from aide_compare.base.files import blocks_of, nameless
-from aide_compare.base.options import KEEP_OPEN, MAX_SIZE, QUIET, SHA256, Asked, Operand, field
+from aide_compare.base.options import KEEP_OPEN, MAX_SIZE, QUIET, SHA256, Request, Operand, field
 from aide_compare.base.parser import Defaults, Help, read, read_defaults
 from aide_compare.base.paths import Pattern
 from aide_compare.base.terminal import answer_to
@@ -175,7 +175,7 @@ def wanted_after_question(new: str, baseline: str, defaults: Defaults) -> str:
     return state.new_sha256
 
 
-class AcceptOptions(Asked):
+class AcceptOptions(Request):
     """What the options ask for."""
 
     is_quiet: bool = field(QUIET, help="do not print what was done")

@@ -9,7 +9,7 @@ from aide_compare.base.database import refuse_terminal
 from aide_compare.base.ending import DeviceFault, Fault, Status, say, usage_fault, write_blocks
 from aide_compare.base.escapes import shown
 from aide_compare.base.files import blocks_of, in_memory, trusted_text
-from aide_compare.base.options import MAX_SIZE, QUIET, USER, Asked, Operand, field, option
+from aide_compare.base.options import MAX_SIZE, QUIET, USER, Request, Operand, field, option
 from aide_compare.base.parser import Help, read, read_defaults
 from aide_compare.base.paths import key_of_path
 from aide_compare.base.processes import limit_memory, limit_time
@@ -49,7 +49,7 @@ ADVICE = (
 )
 
 
-class ArchiveRequest(Asked):
+class ArchiveRequest(Request):
     """What the options ask for."""
 
     is_quiet: bool = field(QUIET, help="say only what is new or not applied")

@@ -23,7 +23,7 @@ from aide_compare.commands.compare_request import (
     with_defaults,
     work_request,
 )
-from aide_compare.commands.comparison_job import ComparisonJob, JobOutputs, Row, keep_failure
+from aide_compare.commands.comparison_job import ComparisonJob, JobOutputs, JobOutput, keep_failure
 from aide_compare.compare.comparison import Comparison, ComparisonInput
 from aide_compare.compare.outputs import STDOUT, notes
 from aide_compare.compare.report import report_of
@@ -68,15 +68,15 @@ class Printer:
         self.form = form_of(request)
         self.is_printed = self.form != NOTHING and not request.is_quiet
         place = partial(write_blocks, STDOUT, words="cannot write the report")
-        self.printed = Row(place, self._printed)
+        self.printed = JobOutput(place, self._printed)
 
     def job(self, work: ComparisonInput, keeps_failure: bool) -> ComparisonJob:
         """The comparison that prints so. Its failure may be kept in the state file."""
-        before = [Row(notes, self._notes)]
-        after = [Row(notes, self._failure, of_failure=True)]
+        before = [JobOutput(notes, self._notes)]
+        after = [JobOutput(notes, self._failure, of_failure=True)]
         if self.is_printed:
             before.append(self.printed)
-            after.append(Row(self.printed.place, self._unjudged, of_failure=True))
+            after.append(JobOutput(self.printed.place, self._unjudged, of_failure=True))
         judges = self.form != REPORT or self.request.paths
         outputs = JobOutputs(before, after, bool(judges), keeps_failure)
         return ComparisonJob(self.request, work, outputs)

@@ -20,12 +20,12 @@ from aide_compare.base.options import (
     TRUSTED,
     USER,
     VERBOSE,
-    Asked,
+    Request,
     Operand,
     Option,
     field,
 )
-from aide_compare.base.parser import DIRECTORY, Asks, Defaults, Values, filled
+from aide_compare.base.parser import DIRECTORY, AnyRequest, Defaults, OptionValues, filled
 from aide_compare.commands.defaults import ADVICE, comparison_defaults, exclusions_of
 from aide_compare.compare.comparison import ComparisonInput
 from aide_compare.compare.configuration import NONE
@@ -44,7 +44,7 @@ Status: 0 nothing to read; 1 added, 2 removed, 4 changed, and sums of these, by 
 not silent; above 7 a failure."""
 
 
-class CompareRequest(Asked):
+class CompareRequest(Request):
     """What the options of a comparison ask for, whatever becomes of it."""
 
     databases: Sequence[str] = field(
@@ -139,7 +139,7 @@ def refuse_names(request: CompareRequest) -> None:
         raise usage_fault("--config names no databases: name OLD and NEW")
 
 
-def with_defaults(asked: type[Asks], given: Values, defaults: Defaults) -> Asks:
+def with_defaults(asked: type[AnyRequest], given: OptionValues, defaults: Defaults) -> AnyRequest:
     """What a command line asks for that gives these values, and the administrator's defaults where
     it says nothing."""
     return filled(asked, given, comparison_defaults(defaults, given["databases"]))

@@ -43,7 +43,7 @@ def keep_failure(path: str | None, error: Exception) -> None:
         keep_night(path, state)
 
 
-class Row:
+class JobOutput:
     """An output: its place, which is open before anything is compared, and what makes its bytes.
     These are made before any place gets its own. An output `of_failure` is made anew after a
     failure: its few bytes are in memory, so that it needs no disk and no descriptor."""
@@ -71,10 +71,10 @@ class Row:
         self.place(self.blocks)
 
 
-def output_rows(request: CompareRequest) -> list[Row]:
+def output_rows(request: CompareRequest) -> list[JobOutput]:
     """The outputs that options name, with their places open."""
     return [
-        Row(open_output(path, f"the output of {row.option.name}"), row.make)
+        JobOutput(open_output(path, f"the output of {row.option.name}"), row.make)
         for row, path in request.outputs
     ]
 
@@ -103,8 +103,8 @@ def state_output(path: str) -> Output:
 class JobOutputs(NamedTuple):
     """What a command wants of a comparison beside the outputs that options name."""
 
-    before: Sequence[Row] = ()
-    after: Sequence[Row] = ()
+    before: Sequence[JobOutput] = ()
+    after: Sequence[JobOutput] = ()
     judges: bool = True  # One of these needs the changes with their standings.
     # Not of a comparison by hand over the state of the daily job.
     keeps_failure: bool = True
@@ -117,7 +117,7 @@ class ComparisonJob:
         self.options = request
         self.request = work
         self.outputs = outputs
-        self.rows: Sequence[Row] = ()
+        self.rows: Sequence[JobOutput] = ()
         self.judged: Judged | None = None
 
     def carry_out(self) -> Comparison:
@@ -154,7 +154,7 @@ class ComparisonJob:
             rows = [*self.outputs.before, *output_rows(self.options)]
             if state_path:
                 place = state_output(state_path)
-                rows.append(Row(place, state_bytes, self.outputs.keeps_failure))
+                rows.append(JobOutput(place, state_bytes, self.outputs.keeps_failure))
         except Fault as fault:
             reason = comparison.fault or fault
             self._keep_failure(reason)

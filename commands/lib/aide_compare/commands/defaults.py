@@ -17,7 +17,7 @@ from aide_compare.base.options import (
     STATE,
     TRUSTED,
 )
-from aide_compare.base.parser import Defaults, Values, administrators_file
+from aide_compare.base.parser import Defaults, OptionValues, administrators_file
 
 if TYPE_CHECKING:
     from aide_compare.compare.exclusions import Exclusions
@@ -51,7 +51,7 @@ def is_same(path: str, named: str) -> bool:
     return os.path.realpath(path) == os.path.realpath(named)
 
 
-def are_named(databases: Sequence[str], values: Values) -> bool:
+def are_named(databases: Sequence[str], values: OptionValues) -> bool:
     """Whether the databases are those that the defaults name, by whatever names."""
     named = values.get(DATABASES.attribute, ())
     return bool(named) and all(map(is_same, databases, named))
@@ -59,7 +59,7 @@ def are_named(databases: Sequence[str], values: Values) -> bool:
 
 def comparison_defaults(
     defaults: Defaults, databases: Sequence[str], note: Callable[[str], None] = say
-) -> Values:
+) -> OptionValues:
     """What the administrator's defaults give the options of a comparison. `databases` are those
     that the command line names, if it names some."""
     values = defaults.values(COMPARISON_DEFAULTS)

@@ -17,7 +17,7 @@ from aide_compare.base.options import (
     MAX_RESULT_AGE,
     QUIET,
     SHA256,
-    HostsAsked,
+    StoreRequest,
     Operand,
     field,
     option,
@@ -44,7 +44,7 @@ aide.db.previous. Without a digest, on a terminal, it prints the report of HOST 
 )
 
 
-class HostAcceptRequest(HostsAsked):
+class HostAcceptRequest(StoreRequest):
     """What the options of `hosts accept` ask for."""
 
     is_quiet: bool = field(QUIET, help="do not print what was done")

@@ -8,7 +8,7 @@ from functools import partial
 
 from aide_compare.base.ending import Fault, OSErrorAsFault, Status, status_of, tell
 from aide_compare.base.files import reopened
-from aide_compare.base.options import HOSTS_OPTION, QUIET, SHA256, HostsAsked, Operand, field
+from aide_compare.base.options import HOSTS_OPTION, QUIET, SHA256, StoreRequest, Operand, field
 from aide_compare.base.parser import Help, read
 from aide_compare.base.processes import limit_memory, limit_time
 from aide_compare.base.terminal import answer_to
@@ -32,7 +32,7 @@ database, there is a baseline of HOST already, or it sent no sound database.""",
 )
 
 
-class AddRequest(HostsAsked):
+class AddRequest(StoreRequest):
     """What the options ask for."""
 
     is_quiet: bool = field(QUIET, help="do not print what was done")

@@ -5,7 +5,7 @@ from collections.abc import Sequence
 
 from aide_compare.base.ending import Status, tell
 from aide_compare.base.escapes import guarded
-from aide_compare.base.options import HOSTS_OPERAND, RESULT_AGE, HostsAsked, field
+from aide_compare.base.options import HOSTS_OPERAND, RESULT_AGE, StoreRequest, field
 from aide_compare.base.parser import Help, read
 from aide_compare.base.words import date_of
 from aide_compare.hosts.hosts_file import hosts_of
@@ -23,7 +23,7 @@ none.""",
 )
 
 
-class ListRequest(HostsAsked):
+class ListRequest(StoreRequest):
     """What the options ask for."""
 
     max_age: int = field(RESULT_AGE)

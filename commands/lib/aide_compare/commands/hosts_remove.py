@@ -8,7 +8,7 @@ from contextlib import closing, suppress
 from aide_compare.base.ending import DeviceFault, OSErrorAsFault, Status, tell
 from aide_compare.base.escapes import shown
 from aide_compare.base.files import is_missing
-from aide_compare.base.options import HOSTS_OPTION, QUIET, HostsAsked, Operand, field
+from aide_compare.base.options import HOSTS_OPTION, QUIET, StoreRequest, Operand, field
 from aide_compare.base.parser import Help, read
 from aide_compare.hosts.hosts_file import remove_host
 from aide_compare.hosts.store import HostDirectory, check_name
@@ -28,7 +28,7 @@ removed.""",
 )
 
 
-class RemoveRequest(HostsAsked):
+class RemoveRequest(StoreRequest):
     """What the options ask for."""
 
     is_quiet: bool = field(QUIET, help="do not print what was done")

@@ -20,7 +20,7 @@ from aide_compare.base.options import (
     STORE,
     TO,
     WEEKLY,
-    HostsAsked,
+    StoreRequest,
     field,
     option,
 )
@@ -30,7 +30,7 @@ from aide_compare.base.words import counted
 from aide_compare.commands.mail import send_heartbeat
 from aide_compare.hosts.canary import notes_of
 from aide_compare.hosts.fleet import Fleet
-from aide_compare.hosts.hosts_page import page
+from aide_compare.hosts.hosts_page import hosts_page
 from aide_compare.hosts.hosts_file import hosts_of, is_name_of_host
 from aide_compare.hosts.hosts_read import read_host
 from aide_compare.hosts.hosts_text import Report, headline, report_lines, short_lines
@@ -54,7 +54,7 @@ MAX_NAMES = 20  # Of the hosts of a change, for people.
 MAX_MAILED_PAGE = 500000
 
 
-class ReportRequest(HostsAsked):
+class ReportRequest(StoreRequest):
     """What the options ask for."""
 
     is_quiet: bool = field(QUIET, help="print nothing if there is nothing to report")
@@ -115,18 +115,18 @@ class HostsReport:
             counts=HostCounts.of([(host.status, host.is_silent) for host in hosts]),
             cut=sum(host.report == CUT for host in hosts),
             not_listed=sum(host.report == UNREADABLE for host in hosts),
-            changes=len(self.fleet.table),
+            changes=len(self.fleet),
             canary=notes,
         )
         shared = partial(self.fleet.shared, max_names=MAX_NAMES)
-        self.report = Report(summary, hosts, self.fleet.table, shared, command_words(request))
+        self.report = Report(summary, hosts, self.fleet, shared, command_words(request))
 
     def json(self) -> Iterator[bytes]:
         """Yields the lines of JSON, the changes in the order of paths."""
         hosts = self.report.hosts
         for fields in (self.report.summary.fields(), *(host.fields() for host in hosts)):
             yield line_of(fields)
-        for place in self.fleet.table.places(order="place"):
+        for place in self.fleet.places(order="place"):
             yield line_of(self.fleet.shared(place, len(hosts)).fields)
 
     def brief(self) -> Iterator[bytes]:
@@ -137,7 +137,7 @@ class HostsReport:
         """The mail about all hosts."""
         attached = None
         if request.has_page:
-            attached = b"".join(page(self.report, MAX_MAILED_PAGE))
+            attached = b"".join(hosts_page(self.report, MAX_MAILED_PAGE))
         text = clean(b"".join(self.brief()))
         return build(address, headline(self.report.summary), text, attached)
 
@@ -160,7 +160,7 @@ class HostsReport:
         if form == "json":
             return self.json()
         if form == "page":
-            return page(self.report)
+            return hosts_page(self.report)
         return map(as_line, report_lines(self.report))
 
 

@@ -33,10 +33,10 @@ from aide_compare.base.options import (
     field,
     option,
 )
-from aide_compare.base.parser import Defaults, Help, Parser, Values, filled, read_defaults
+from aide_compare.base.parser import Defaults, Help, Parser, OptionValues, filled, read_defaults
 from aide_compare.base.replacement import Replacement
 from aide_compare.base.rights import become_owner, give_up
-from aide_compare.commands.comparison_job import ComparisonJob, JobOutputs, Row, keep_failure
+from aide_compare.commands.comparison_job import ComparisonJob, JobOutputs, JobOutput, keep_failure
 from aide_compare.commands.compare_request import CompareRequest, refuse_names, work_request
 from aide_compare.commands.defaults import comparison_defaults, machines_state
 from aide_compare.compare.comparison import Comparison
@@ -88,7 +88,7 @@ class MailJob(NamedTuple):
     notes: Sequence[str] = ()  # What has to be said of the defaults.
 
 
-def refuse_contradictions(request: MailRequest, given: Values, fault: Fault | None) -> None:
+def refuse_contradictions(request: MailRequest, given: OptionValues, fault: Fault | None) -> None:
     """Refuses what means nothing without another word, or with it. `fault`: of the defaults."""
     refuse_names(filled(CompareRequest, given, {}))
     if "weekly" in given and not (request.state or fault):
@@ -108,7 +108,7 @@ def job_of(words: Sequence[str]) -> MailJob:
     given = Parser(MailRequest, HELP).parse(words)
     compares = "send_queue" not in given and "is_test" not in given
     defaults = Defaults()
-    values: Values = {}
+    values: OptionValues = {}
     notes: list[str] = []
     fault = None
     try:
@@ -267,7 +267,7 @@ def compared(job: MailJob) -> Compared:
         if job.fault:
             raise job.fault
         work = work_request(job.request, job.defaults)
-        row = Row(mail.extend, partial(message_of, job, before), of_failure=True)
+        row = JobOutput(mail.extend, partial(message_of, job, before), of_failure=True)
         ended = ComparisonJob(job.request, work, JobOutputs(after=[row])).carry_out()
         state = ended.state()
         news = subject_of(state) if state.status else "no difference"

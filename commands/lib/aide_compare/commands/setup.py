@@ -16,7 +16,7 @@ from aide_compare.base.escapes import shown
 from aide_compare.base.files import is_missing, reopened
 from aide_compare.base.replacement import replace
 from aide_compare.base.directories import closed_after, open_directory
-from aide_compare.base.options import DATABASES, QUIET, TO, Asked, field, option
+from aide_compare.base.options import DATABASES, QUIET, TO, Request, field, option
 from aide_compare.base.parser import Help, read
 from aide_compare.base.words import counted
 from aide_compare.commands.setup_machine import (
@@ -64,7 +64,7 @@ APT::Periodic::AutocleanInterval "7";
 """
 
 
-class SetupRequest(Asked):
+class SetupRequest(Request):
     """What the options ask for."""
 
     is_quiet: bool = field(QUIET, help="list no step, and nothing that is missing")

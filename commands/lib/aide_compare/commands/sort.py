@@ -8,7 +8,7 @@ from aide_compare.base.database import MAX_LINE, Kind, Layout, refuse_terminal
 from aide_compare.base.ending import Fault, Status, say, write_blocks
 from aide_compare.base.escapes import shown
 from aide_compare.base.files import reopened
-from aide_compare.base.options import MAX_SIZE, QUIET, Asked, Operand, field
+from aide_compare.base.options import MAX_SIZE, QUIET, Request, Operand, field
 from aide_compare.base.parser import Help, read
 from aide_compare.base.paths import path_of
 from aide_compare.base.rows import Rows
@@ -49,7 +49,7 @@ ADVICE = (
 )
 
 
-class SortRequest(Asked):
+class SortRequest(Request):
     """What the options ask for."""
 
     is_quiet: bool = field(QUIET, help="do not print how many lines were out of order")

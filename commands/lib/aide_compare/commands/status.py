@@ -28,12 +28,12 @@ from aide_compare.base.options import (
     RESULT_AGE,
     STATE,
     WARNING,
-    Asked,
+    Request,
     Operand,
     field,
     option,
 )
-from aide_compare.base.parser import Help, Values, read, read_defaults
+from aide_compare.base.parser import Help, OptionValues, read, read_defaults
 from aide_compare.base.words import SEVERITIES, capitalized, minute_of
 from aide_compare.compare.history import history_path, nights_of
 from aide_compare.compare.state import DAILY, State, read_state
@@ -79,7 +79,7 @@ CHANGES = {
 }
 
 
-class StatusRequest(Asked):
+class StatusRequest(Request):
     """What the options ask for."""
 
     is_quiet: bool = field(
@@ -143,7 +143,7 @@ def paragraph(state: State, max_age: int) -> list[str]:
     return lines + command_lines(state)
 
 
-def mail_lines(request: StatusRequest, defaults: Values) -> list[str]:
+def mail_lines(request: StatusRequest, defaults: OptionValues) -> list[str]:
     """What keeps the mails of the daily job from whoever reads them."""
     if request.state != defaults.get(STATE.attribute, DAILY):
         return []
@@ -154,7 +154,7 @@ def mail_lines(request: StatusRequest, defaults: Values) -> list[str]:
     return ["", *(f"Mails: {line}" for line in found)] if found else []
 
 
-def write_text(request: StatusRequest, defaults: Values) -> int:
+def write_text(request: StatusRequest, defaults: OptionValues) -> int:
     """What people read. Without a state it says how to get one."""
     if request.has_history:
         return write_history(request.state)
@@ -182,7 +182,7 @@ def write_history(path: str) -> int:
     return Status.OK
 
 
-def write_json(request: StatusRequest, _defaults: Values) -> int:
+def write_json(request: StatusRequest, _defaults: OptionValues) -> int:
     """The object of the state file. What is not known is null."""
     write_blocks(1, [read_state(request.state).text()])
     return Status.OK
@@ -212,7 +212,7 @@ def metrics_of(state: State) -> str:
     return "".join(lines)
 
 
-def write_metrics(request: StatusRequest, _defaults: Values) -> int:
+def write_metrics(request: StatusRequest, _defaults: OptionValues) -> int:
     text = metrics_of(read_state(request.state)).encode()
     if request.output == STDOUT:
         write_blocks(1, [text])
@@ -222,7 +222,7 @@ def write_metrics(request: StatusRequest, _defaults: Values) -> int:
     return Status.OK
 
 
-def write_check(request: StatusRequest, _defaults: Values) -> int:
+def write_check(request: StatusRequest, _defaults: OptionValues) -> int:
     answer = answer_of(request.state, request.max_age, request.warning, request.critical)
     tell(answer.line())
     return answer.level
@@ -236,7 +236,7 @@ WRITERS = {
 }
 
 
-def request_of(arguments: Sequence[str], defaults: Values) -> StatusRequest:
+def request_of(arguments: Sequence[str], defaults: OptionValues) -> StatusRequest:
     request = read(StatusRequest, arguments, HELP, defaults)
     is_conditional = request.is_quiet or request.max_age != RESULT_AGE.default
     if request.has_history and request.format != "text":

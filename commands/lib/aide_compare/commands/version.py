@@ -11,7 +11,7 @@ from aide_compare import VERSION
 from aide_compare.base.ending import Fault, Status, tell
 from aide_compare.base.escapes import shown
 from aide_compare.base.files import read_file
-from aide_compare.base.options import Asked
+from aide_compare.base.options import Request
 from aide_compare.base.parser import Help, read
 from aide_compare.base.program import (
     LINES_PROGRAM,
@@ -83,7 +83,7 @@ def program_lines(title: str, name: str) -> Iterator[str]:
 
 
 def main(arguments: Sequence[str]) -> int:
-    read(Asked, arguments, HELP)
+    read(Request, arguments, HELP)
     tell(
         f"aide-compare {VERSION}",
         *program_lines("program", PROGRAM),

@@ -42,7 +42,7 @@ def _user_for(directory: Directory) -> int | None:
     return min(directory.others)
 
 
-class Former:
+class FormerFile:
     """The file that is the baseline when a run begins."""
 
     def __init__(self, descriptor: int) -> None:
@@ -91,9 +91,9 @@ class Baseline:
         self.former = self._former()
         self._readable = self._opened_former()
 
-    def _former(self) -> Former | None:
+    def _former(self) -> FormerFile | None:
         with suppress(FileNotFoundError):
-            return Former(os.open(self.name, PIECE, dir_fd=self.directory))
+            return FormerFile(os.open(self.name, PIECE, dir_fd=self.directory))
         return None
 
     def _opened_former(self) -> int | None:

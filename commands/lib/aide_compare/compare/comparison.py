@@ -21,7 +21,7 @@ from aide_compare.lines.reader import EndCounts, Reader, reader_over
 if TYPE_CHECKING:
     from aide_compare.compare.exclusions import Exclusions
 
-MAX_NAME = 4000
+MAX_PATH_TEXT = 4000
 
 NO_COPIES: Mapping[str, Copy] = MappingProxyType({})
 
@@ -129,9 +129,9 @@ class Comparison:
         """The State that says it."""
         # The names of databases that were not opened are known too.
         names = {"old": self.request.old, "new": self.request.new}
-        values: dict[str, Any] = {side: shown(name, MAX_NAME) for side, name in names.items()}
+        values: dict[str, Any] = {side: shown(name, MAX_PATH_TEXT) for side, name in names.items()}
         for side, copy in self.copies.items():
-            values[side] = shown(copy.name, MAX_NAME)
+            values[side] = shown(copy.name, MAX_PATH_TEXT)
             values[f"{side}_sha256"] = copy.sha256
             if side in SIDES:
                 values[f"{side}_written"] = copy.written

@@ -8,18 +8,20 @@ from __future__ import annotations
 
 import hashlib
 import json
-from collections.abc import Iterable, Sequence
+from collections.abc import Iterable, Iterator, Sequence
 
 from aide_compare.base.paths import key_of_path
+from aide_compare.base.rows import Rows
 from aide_compare.base.words import SEVERITIES, SIDES
 from aide_compare.changes.severity import RANKS, Severity
-from aide_compare.changes.table import Table
+from aide_compare.changes.table import ORDER_OF_PART as ORDER_ON_HOST
 from aide_compare.changes.weighing import Weights
 from aide_compare.hosts.report_values import SharedChange
 from aide_compare.lines.attributes import FORMS
 from aide_compare.lines.change import ChangeLine, Fields
 from aide_compare.lines.reader import HEX
 from aide_compare.lines.rights import differing
+from aide_compare.show.digest import MAIL, Questions
 
 OWN = frozenset(["Bcount", "Atime", "Mtime", "Ctime", "Inode", "Linkcount"])
 MEMBERS = frozenset("kind path path_hex summary type old new".split())
@@ -41,21 +43,48 @@ insert into found values (
         when exists (select 1 from found where same = ?4 and line is not null) then null else ?10
     end
 )"""
-# Each change once. It counts against the host that has the fewest changes of those that have it: in
-# the row this is the site, the party is its directory, and `line_at` says which of the changes of a
-# host it is.
+# Each change once, and of the hosts that have it the one with the fewest changes, against which it
+# counts.
+SHARED = f"""
+create table shared (
+    place integer primary key, same blob, path_key blob, directory blob, kind text,
+    owners integer, rank integer, hosts integer, host integer, is_listed integer default false,
+    level integer as (rank / {RANKS})
+)"""
 GATHER = """
-with loads as (select host, count(*) as load from found group by host)
-insert into changes (path_key, site, kind, owners, rank, party, line_at, hosts)
-select path_key, host, kind, owners, rank, directory, place, hosts
-from (
-    select *, found.rowid as place, count(*) as hosts, min(load)
-    from found join loads using (host) group by same
-) order by path_key, same"""
+with
+    loads as (select host, count(*) as load from found group by host),
+    ranked as (
+        select same, path_key, directory, kind, owners, rank, host, count(*) over (partition by same) as hosts,
+            row_number() over (partition by same order by load, found.rowid) as turn
+        from found join loads using (host)
+    )
+insert into shared (same, path_key, directory, kind, owners, rank, hosts, host)
+select same, path_key, directory, kind, owners, rank, hosts, host
+from ranked where turn = 1 order by path_key, same"""
 SAME = """
-select host, old, own, line, rank from found where same = (
-    select same from found where rowid = (select line_at from changes where place = ?)
-) order by host"""
+select host, old, own, line, rank from found
+where same = (select same from shared where place = ?) order by host"""
+# What the fewest hosts have is read first.
+ORDER_OF_SHARED = f"hosts, {ORDER_ON_HOST}"
+# What some leave goes to the first of each host before all others, and of a host to the first of
+# each directory.
+OF_HOSTS = Questions(
+    sizes="""
+select level, owners, count(*), min(count(*), sum(turn <= {first}) + {named})
+from (select level, owners, row_number() over (partition by level, owners, host) as turn
+    from shared)
+group by 1, 2""",
+    in_order=f"""
+select place, null, host from shared where level = ? and owners = ?
+order by row_number() over (partition by host, directory order by {ORDER_OF_SHARED})
+    > {MAIL.first}, {ORDER_OF_SHARED}""",
+    most="""
+select host, count(*) from shared where level = ? and owners = ? and not is_listed
+group by 1 order by 2 desc, 1 limit ?""",
+    turn="update shared set is_listed = not is_listed where place = ?",
+)
+LEVELS = "select level, count(*) from shared group by 1"
 
 
 def digest_of(*values: object) -> bytes:
@@ -75,15 +104,15 @@ class Fleet:
         self.names = names
         self.severity = Severity()
         self.weights = Weights()
-        self.table = Table()
-        self.table.do(FOUND)
+        self.table = Rows(FOUND)
         self.table.do(FIRST)
+        self.table.do(SHARED)
 
     def add(self, host: int, change: ChangeLine) -> None:
         """Takes a change of the host with this number."""
         known = self.weights.of(change)
         directory, _, name = change.path.rpartition(b"/")
-        rank = self.severity.ranks(directory, known.held)(name)
+        rank = self.severity.ranks(directory, known.results)(name)
         fields = differing(change.fields)
         word = fields.get("type", "Entry")
         own = OWN
@@ -110,6 +139,16 @@ class Fleet:
         """Makes one of the changes that are the same, when all were taken."""
         self.table.do(INDEX)
         self.table.do(GATHER)
+
+    def __len__(self) -> int:
+        """How many different changes there are."""
+        return int(next(self.table.ask("select coalesce(max(place), 0) from shared"))[0])
+
+    def places(self, order: str = f"level, owners, {ORDER_OF_SHARED}") -> Iterator[int]:
+        """Yields the places of all changes in an order, the one in which people read them if no
+        other is given."""
+        for (place,) in self.table.ask(f"select place from shared order by {order}"):
+            yield place
 
     def shared(self, place: int, max_names: int) -> SharedChange:
         """The change at a place of the table, on some hosts, of which at most so many are named.

@@ -19,7 +19,7 @@ from aide_compare.base.options import (
     MAX_SIZE,
     NO_DEFAULTS,
     QUIET,
-    HostsAsked,
+    StoreRequest,
     field,
     option,
 )
@@ -48,7 +48,7 @@ MAX_AHEAD = 600
 SAME_FOR = 50 * 3600
 
 
-class HostsRequest(HostsAsked):
+class HostsRequest(StoreRequest):
     """What the options of `hosts compare` ask for."""
 
     is_quiet: bool = field(

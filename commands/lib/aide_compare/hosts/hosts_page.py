@@ -7,6 +7,7 @@ from collections import Counter
 from collections.abc import Iterator, Sequence
 
 from aide_compare.base.escapes import guarded
+from aide_compare.hosts.fleet import LEVELS
 from aide_compare.hosts.hosts_text import (
     ORDER,
     Report,
@@ -20,11 +21,10 @@ from aide_compare.hosts.report_values import SharedChange
 from aide_compare.lines.change import Fields
 from aide_compare.lines.reader import embedded
 from aide_compare.show.digest import digest
-from aide_compare.show.page import BESIDE, MAX_PAGE, page as whole_page, row_of
-from aide_compare.show.page import size_beside
+from aide_compare.show.page import BESIDE, MAX_PAGE, row_of
+from aide_compare.show.page import size_beside, whole_page
 
 MAX_LIST = 1500000  # Of each list of hosts.
-LEVELS = "select level, count(*) from changes group by 1"
 MIN_ROW = 400  # So many bytes most rows have at least.
 
 
@@ -77,17 +77,19 @@ def shared_row(shared: SharedChange, hosts: int) -> bytes:
     return embedded(row_of(shared.change, {name: mark for name, mark in marks.items() if mark}))
 
 
-def page(report: Report, limit: int = 0) -> Iterator[bytes]:
+def hosts_page(report: Report, limit: int = 0) -> Iterator[bytes]:
     """Yields the page, of at most so many bytes. The most severe changes have room first."""
     total = report.summary.changes
     title = headline(report.summary)
     text = "\n".join(short_lines(report))
     room = (limit or MAX_PAGE) - size_beside(title, text, lambda: heading_of(report, total, total))
-    left_out = Counter(dict(report.table.ask(LEVELS)))
+    left_out = Counter(dict(report.fleet.table.ask(LEVELS)))
 
     def rows() -> Iterator[bytes]:
         size = 0
-        for part in digest(report.table, room_of(report, max(room // MIN_ROW, 1)), lambda *_: ""):
+        for part in digest(
+            report.fleet.table, room_of(report, max(room // MIN_ROW, 1)), lambda *_: ""
+        ):
             for shared in map(report.shared, part.places):
                 data = shared_row(shared, report.summary.counts.hosts)
                 size += len(data) + BESIDE

@@ -11,7 +11,7 @@ from typing import NamedTuple
 
 from aide_compare.base.escapes import guarded
 from aide_compare.base.words import SEVERITIES, capitalized, counted
-from aide_compare.changes.table import Table
+from aide_compare.hosts.fleet import OF_HOSTS, Fleet
 from aide_compare.hosts.hosts_read import words_of
 from aide_compare.hosts.report_values import CUT, UNREADABLE, Host, SharedChange, Summary
 from aide_compare.lines.attributes import word_of
@@ -41,7 +41,7 @@ class Report(NamedTuple):
 
     summary: Summary
     hosts: list[Host]
-    table: Table  # The changes.
+    fleet: Fleet  # The changes.
     shared: Callable[[int], SharedChange]  # By its place.
     command: Sequence[str]  # The words of the command that prints the whole text.
 
@@ -109,7 +109,7 @@ def report_lines(report: Report) -> Iterator[str]:
     if summary.changes:
         yield ""
         yield f"{counted(summary.changes, 'different change')}, {ORDER}:"
-    for shared in map(report.shared, report.table.places()):
+    for shared in map(report.shared, report.fleet.places()):
         yield from shared_lines(shared, summary.counts.hosts)
 
 
@@ -162,7 +162,7 @@ def room_of(report: Report, height: int) -> Room:
     """The room of a text or a page with so many lines for changes: a host has an eighth, or less if
     more hosts have something to list, before the others have more."""
     share = max(height // max(PARTS, report.summary.counts.differ), 1)
-    return MAIL._replace(height=height, few=(height,) * 3, first=share, is_of_hosts=True)
+    return MAIL._replace(height=height, few=(height,) * 3, first=share, questions=OF_HOSTS)
 
 
 def short_changes(report: Report, height: int) -> Iterator[str]:
@@ -172,7 +172,7 @@ def short_changes(report: Report, height: int) -> Iterator[str]:
         return f"on {shortened(report.hosts[number].name, width - 3)}"
 
     room = room_of(report, height - len(SEVERITIES))
-    return open_lines(report.table, room, on_host, partial(grouped_lines, report))
+    return open_lines(report.fleet.table, room, on_host, partial(grouped_lines, report))
 
 
 def short_lines(report: Report) -> Iterator[str]:

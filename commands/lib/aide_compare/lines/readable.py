@@ -20,7 +20,7 @@ from aide_compare.lines.change import Change, Texts, Value, Values
 
 # A text for people has at most so many characters; a longer one is cut, and ends with "...".
 MAX_TEXT = 4000
-MAX_NAME = 300
+MAX_ATTRIBUTE_NAME = 300
 # The types of files in words, as reports name them.
 TYPES = {
     "File": stat.S_IFREG,
@@ -136,7 +136,7 @@ def xattrs_text(value: bytes) -> str:
     parts = []
     length = 0
     for name, data in _extended_attributes(value):
-        escaped = shown(name, MAX_NAME).translate(NAME_ESCAPES)
+        escaped = shown(name, MAX_ATTRIBUTE_NAME).translate(NAME_ESCAPES)
         parts.append(f"{escaped}: {_attribute_text(name, data)}")
         length += len(parts[-1])
         if length > MAX_TEXT:

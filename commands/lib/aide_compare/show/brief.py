@@ -13,7 +13,7 @@ from aide_compare.show.entry import entry_words
 from aide_compare.show.groups import group_lines
 
 WIDTH = 100  # Of lines with names, if lines have no limit.
-MAX_NAME = 40
+MAX_PACKAGE_NAME = 40
 MIN_NAME = 3  # With the comma and the blank behind it.
 
 
@@ -32,7 +32,7 @@ def names_lines(title: str, names: Sequence[str], room: Room) -> list[str]:
     """As many names of packages as there are lines for, and how many more there are."""
     from textwrap import wrap  # A millisecond that most runs do not need.
 
-    words = [guarded(name)[:MAX_NAME] for name in names]
+    words = [guarded(name)[:MAX_PACKAGE_NAME] for name in names]
     count = min(len(words), room.names * WIDTH // MIN_NAME)
     while True:
         text = f"{title}: {', '.join(words[:count])}"

@@ -38,7 +38,7 @@ def _shown(label: str, value: Value, text: str | None) -> str | None:
     return shown(value)
 
 
-class Row(NamedTuple):
+class AttributeValues(NamedTuple):
     """An attribute of a change with both values for people, None for one that is not there."""
 
     label: str
@@ -52,7 +52,7 @@ class Row(NamedTuple):
         return f"    {word_of(self.label):<10} {values[kind]}\n"
 
 
-def values_in(change: Change, others: Collection[str] = ()) -> Iterator[Row]:
+def values_in(change: Change, others: Collection[str] = ()) -> Iterator[AttributeValues]:
     """Each attribute of a change, and those that it has too, with both values for people, None for
     one that is not there. Of the digests one says as much as all, and the type is said
     already unless it changed."""
@@ -66,7 +66,7 @@ def values_in(change: Change, others: Collection[str] = ()) -> Iterator[Row]:
             continue
         old = _shown(label, change.old.get(label), texts.old.get(label))
         new = _shown(label, change.new.get(label), texts.new.get(label))
-        yield Row(label, old, new)
+        yield AttributeValues(label, old, new)
 
 
 def changes_with_values(

@@ -3,7 +3,7 @@ for the screen, for a mail, and for the report of many hosts.
 
 The order is that of changes/table.py. Each severity and each group of owners has a share of the
 lines, so that nobody but root pushes root's changes out of sight, and what some leave goes to the
-others, in their order. A party, which is a user, or a host of many, has a share too: what it has
+others, in their order. A user, or a host of many, has a share too: what it has
 beyond that comes after all others. What is not listed is counted.
 """
 from __future__ import annotations
@@ -16,8 +16,9 @@ from typing import Any, NamedTuple
 
 from aide_compare.base.escapes import shown
 from aide_compare.base.paths import path_of
+from aide_compare.base.rows import Rows
 from aide_compare.base.words import SEVERITIES
-from aide_compare.changes.table import LISTED, ORDER_OF_PART, Table
+from aide_compare.changes.table import LISTED, ORDER_OF_PART
 from aide_compare.lines.change import Change
 
 MAX_LETTERS = 400  # Of a path in a line of any width.
@@ -26,29 +27,38 @@ MIN_WIDTH = 24  # Of a path, however little room there is.
 SIZE = " [0-9]+ bytes$"
 # What open changes of one severity and one group of owners have in common.
 PART = f"{LISTED} and level = ? and owners = ?"
-IN_ORDER = f"select place, party, site from changes where {PART} order by {ORDER_OF_PART}"
-SIZES = f"""
-select level, owners, sum(size), sum(size) from numbers where {LISTED}
-group by 1, 2 having sum(size)
-"""
-# The same, and how many lines the first of each host need, with those that count the others.
-SIZES_OF_HOSTS = f"""
-select level, owners, count(*), min(count(*), sum(turn <= ?) + ?)
-from (select level, owners, row_number() over (partition by level, owners, site) as turn
-    from changes where {LISTED})
-group by 1, 2
-"""
-# Where most of those are that are not listed, and of the changes at some places whether they are.
-MOST = f"""
-select site, count(*) from changes where {PART} and not is_listed
-group by 1 order by 2 desc, 1 limit ?
-"""
 # So many rows of an answer are mostly enough, and take half as long as all.
 ENOUGH = 1000
-TURN = "update changes set is_listed = not is_listed where place = ?"
 
-# The words, in so many columns, for a site by which the changes that are not listed are counted.
+# The words, in so many columns, for a group by which the changes that are not listed are counted.
 Names = Callable[[Any, int], str]
+
+
+class Questions(NamedTuple):
+    """What a text asks of a table of changes."""
+
+    # Of each severity and each group of owners how many there are, and how many come before all
+    # others, if so many {first} of a group do and {named} lines count the others.
+    sizes: str
+    # Of one of these parts the places in their order, with the user and the group of each.
+    in_order: str
+    # In which groups most of those are that are not listed.
+    most: str
+    # Turns round whether the change at a place is listed.
+    turn: str
+
+
+# Those of one host: a group is a directory.
+OF_CHANGES = Questions(
+    sizes=f"""
+select level, owners, sum(size), sum(size) from numbers where {LISTED}
+group by 1, 2 having sum(size)""",
+    in_order=f"select place, user, directory from changes where {PART} order by {ORDER_OF_PART}",
+    most=f"""
+select directory, count(*) from changes where {PART} and not is_listed
+group by 1 order by 2 desc, 1 limit ?""",
+    turn="update changes set is_listed = not is_listed where place = ?",
+)
 
 
 class Room(NamedTuple):
@@ -58,12 +68,12 @@ class Room(NamedTuple):
     # others.
     shares: tuple[tuple[int, int, int], ...]
     few: tuple[int, int, int]  # By severity, how many lines of one directory there are at most.
-    first: int  # So many of each directory, or host, come before what all have more.
-    party: int  # How many lines a party has before all others.
+    first: int  # So many of each group come before what all have more.
+    user: int  # How many lines a user has before all others.
     named: int  # How many lines count what is not listed of one severity and one group.
     groups: int = 0  # How many packages are listed of what is recorded.
     names: int = 0  # How many lines there are for the names of packages under one title.
-    is_of_hosts: bool = False  # What some leave goes to the first of each host before all others.
+    questions: Questions = OF_CHANGES
     height: int = 0  # How many lines there are; 0: those of the shares, and no more.
     width: int = 0  # Of a line; 0: without a limit.
 
@@ -72,7 +82,7 @@ SCREEN = Room(
     shares=((2000, 100, 100), (200, 100, 100), (200, 100, 100)),
     few=(2000, 20, 20),
     first=5,
-    party=50,
+    user=50,
     named=5,
     groups=40,
     names=100,
@@ -81,18 +91,12 @@ MAIL = Room(
     shares=((24, 4, 4), (6, 2, 2), (1, 1, 1)),
     few=(80, 80, 5),
     first=5,
-    party=10,
+    user=10,
     named=1,
     groups=6,
     names=10,
     width=80,
 )
-# Those of hosts: the first of each directory of a host before all that these have more.
-IN_ORDER_OF_HOSTS = f"""
-select place, null, site from changes where {PART}
-order by row_number() over (partition by site, party order by {ORDER_OF_PART}) > {MAIL.first},
-    {ORDER_OF_PART}
-"""
 
 
 class Part(NamedTuple):
@@ -121,12 +125,10 @@ def in_directory(key: bytes, width: int) -> str:
     return f"in {shortened_path(path_of(key), width and width - len('in '))}"
 
 
-def digest(table: Table, room: Room, names: Names) -> Iterator[Part]:
+def digest(table: Rows, room: Room, names: Names) -> Iterator[Part]:
     """The parts of the open changes that there is room for."""
-    if room.is_of_hosts:
-        parts = list(table.ask(SIZES_OF_HOSTS, room.first, room.named))
-    else:
-        parts = list(table.ask(SIZES))
+    questions = room.questions
+    parts = list(table.ask(questions.sizes.format(first=room.first, named=room.named)))
     sizes = [size for _, _, size, _ in parts]
     shares = [min(size, room.shares[level][owners]) for level, owners, size, _ in parts]
     height = room.height or sum(shares)
@@ -137,14 +139,14 @@ def digest(table: Table, room: Room, names: Names) -> Iterator[Part]:
         if size > lines:
             lines = max(lines - room.named, 0)
         places = chosen(table, level, owners, lines, room)
-        table.do_all(TURN, zip(places))
+        table.do_all(questions.turn, zip(places))
         rest = list(rest_words(table, level, owners, size - len(places), room, names))
-        table.do_all(TURN, zip(places))
+        table.do_all(questions.turn, zip(places))
         yield Part(level, places, rest)
 
 
 def open_lines(
-    table: Table, room: Room, names: Names, lines_of: Callable[[Iterable[int]], Iterator[str]]
+    table: Rows, room: Room, names: Names, lines_of: Callable[[Iterable[int]], Iterator[str]]
 ) -> Iterator[str]:
     """The lines for the open changes that there is room for, each severity under its title."""
     last = None
@@ -156,26 +158,26 @@ def open_lines(
         yield from (f"  {words}" for words in part.rest)
 
 
-def chosen(table: Table, level: int, owners: int, limit: int, room: Room) -> list[int]:
+def chosen(table: Rows, level: int, owners: int, limit: int, room: Room) -> list[int]:
     """The places of the changes of a part that are listed, at most so many."""
     # By whether a change comes later, and whether it is beyond the first of its directory.
     kept: dict[tuple[bool, bool], list[int]] = defaultdict(list)
     spent: Counter[object] = Counter()
     turns: Counter[object] = Counter()
-    question = IN_ORDER_OF_HOSTS if room.is_of_hosts else IN_ORDER
+    question = room.questions.in_order
     first_rows = table.ask(f"{question} limit {ENOUGH}", level, owners)
     others = islice(table.ask(question, level, owners), ENOUGH, None)
-    for place, party, site in chain(first_rows, others):
+    for place, user, group in chain(first_rows, others):
         if len(kept[False, False]) == limit:
             break
-        # Root is no party, and neither is a host.
-        is_later = bool(party) and spent[party] >= room.party
-        turn = (site, is_later)
+        # Not of root, and not of hosts.
+        is_later = bool(user) and spent[user] >= room.user
+        turn = (group, is_later)
         is_full = is_later and len(kept[True, False]) == limit
         if is_full or turns[turn] == room.few[level]:
             continue
         turns[turn] += 1
-        spent[party] += 1
+        spent[user] += 1
         part = kept[is_later, turns[turn] > room.first]
         if len(part) < limit:
             part.append(place)
@@ -183,15 +185,16 @@ def chosen(table: Table, level: int, owners: int, limit: int, room: Room) -> lis
 
 
 def rest_words(
-    table: Table, level: int, owners: int, left: int, room: Room, names: Names
+    table: Rows, level: int, owners: int, left: int, room: Room, names: Names
 ) -> Iterator[str]:
     """How many changes of a part are not listed, and where most of them are, in a few lines."""
-    for number, (site, count) in enumerate(table.ask(MOST, level, owners, room.named), 1):
+    most = table.ask(room.questions.most, level, owners, room.named)
+    for number, (group, count) in enumerate(most, 1):
         words = f"and {count} more "
         if number == room.named and count < left:
             words = f"and {left} more, {count} of them "
             count = left
-        yield words + names(site, room.width and room.width - len("  ") - len(words))
+        yield words + names(group, room.width and room.width - len("  ") - len(words))
         left -= count
     if left:
         yield f"and {left} more"  # They are in no table.

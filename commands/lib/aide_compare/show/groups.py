@@ -9,7 +9,7 @@ from aide_compare.changes.judged import Judged
 from aide_compare.changes.table import RECORDED, Table
 from aide_compare.show.digest import shortened_path
 
-MAX_NAME = 40
+MAX_PACKAGE_NAME = 40
 MAX_HIGH = 3  # Of each package so many paths of severity high are named.
 # The packages with recorded changes, those with most of severity high first.
 RECORDED_OF = (
@@ -39,7 +39,7 @@ def recorded_lines(table: Table, limit: int, width: int) -> Iterator[str]:
     packages = files = all_high = 0
     for number, (package, count, high) in enumerate(table.ask(RECORDED_OF)):
         if number < limit:
-            yield f"  {guarded(package)[:MAX_NAME]}: {files_words(count, high)}"
+            yield f"  {guarded(package)[:MAX_PACKAGE_NAME]}: {files_words(count, high)}"
             if 0 < high <= MAX_HIGH:
                 yield high_line(table, package, width)
             continue

@@ -28,7 +28,7 @@ def json_lines(comparison: Comparison, judged: Judged | None) -> Iterable[bytes]
     return added_lines(comparison, judged)
 
 
-def page(comparison: Comparison, judged: Judged | None) -> Iterable[bytes]:
+def page_blocks(comparison: Comparison, judged: Judged | None) -> Iterable[bytes]:
     from aide_compare.show.page import page_of
 
     return page_of(comparison, judged)
@@ -47,5 +47,5 @@ PAGE = Option(
     is_single=True,
 )
 JSON_ROW = OutputRow(JSON, json_lines)
-PAGE_ROW = OutputRow(PAGE, page)
+PAGE_ROW = OutputRow(PAGE, page_blocks)
 OUTPUTS = (JSON_ROW, PAGE_ROW)

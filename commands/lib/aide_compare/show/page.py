@@ -57,7 +57,7 @@ KNOWN = {"choices": CHOICES, "names": NAMES, "labels": list(FORMS), "strength": 
 MAX_PAGE = 20000000
 RESERVE = 8000
 MAX_DIGEST = 200000
-MAX_NAME = 1000
+MAX_PATH_TEXT = 1000
 MAX_NOTES = 20
 BESIDE = len(b"[,],\n")
 # Of a value of a host.
@@ -82,7 +82,7 @@ def digest_of(text: str) -> str:
     return base64.b64encode(hashlib.sha256(text.encode()).digest()).decode()
 
 
-def page(
+def whole_page(
     title: str, digest: str, rows: Iterable[bytes], heading: Callable[[], Fields]
 ) -> Iterator[bytes]:
     """Yields a page. `digest` is what is seen without the script; the heading is made when all rows
@@ -110,7 +110,7 @@ def page(
 
 def size_beside(title: str, digest: str, heading: Callable[[], Fields]) -> int:
     """How many bytes a page has beside its rows."""
-    return RESERVE + sum(map(len, page(title, digest, (), heading)))
+    return RESERVE + sum(map(len, whole_page(title, digest, (), heading)))
 
 
 def shown_value(value: Value) -> int | str:
@@ -227,7 +227,7 @@ def heading_of(comparison: Comparison, rows: PageRows, title: str) -> Fields:
     for side in SIDES:
         copy = comparison.copies[side]
         time = "" if copy.written is None else minute_of(copy.written)
-        name = shown(copy.name, MAX_NAME)
+        name = shown(copy.name, MAX_PATH_TEXT)
         databases.append({"side": side, "name": name, "time": time, "sha256": copy.sha256})
     remarks = rows.remarks()
     if counts.left_out:
@@ -266,4 +266,4 @@ def page_of(
         return heading_of(comparison, rows, title)
 
     room = limit - size_beside(title, digest, heading)
-    return page(title, digest, rows.chosen(room), heading)
+    return whole_page(title, digest, rows.chosen(room), heading)
