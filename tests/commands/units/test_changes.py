@@ -5,8 +5,7 @@ from typing import Any
 
 from tests.commands.units.calls import ModuleTest
 
-from aide_compare.lines.change import Change, Counts, Standing, account_of, change_of
-from aide_compare.lines.reader import ODD
+from aide_compare.lines.change import ODD, Change, Counts, Standing, account_of, change_of
 
 LINE: dict[str, Any] = {
     "path_hex": "2fff",
