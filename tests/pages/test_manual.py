@@ -201,11 +201,11 @@ class NamesTest(unittest.TestCase):
 
     def test_faults(self) -> None:
         """Each fault of DIAGNOSTICS is one that the program names, and each of those is there."""
-        named = [words for words, _ in listed("Faults of the configuration")]
+        named = [words for words, _ in listed("Errors of the configuration")]
         self.assertEqual(sorted(named), sorted(CONFIGURATION_WORDS.values()))
-        named = [words for words, _ in listed("Faults of a list")]
+        named = [words for words, _ in listed("Errors of a list")]
         self.assertEqual(named, list(LIST_WORDS.values()))
-        named = [words for words, _ in listed("Faults of a database")]
+        named = [words for words, _ in listed("Errors of a database")]
         wanted = [words + " N" * words.endswith("column") for words in DATABASE_WORDS.values()]
         self.assertEqual(sorted(named), sorted([*wanted, "read failed"]))
 
