@@ -181,7 +181,13 @@ class NamesTest(unittest.TestCase):
 
     def test_attributes(self) -> None:
         form = r"^\.It Li (\S+) Ta (\S+) Ta (\S+) Ta (\S+) Ta (\S+)$"
-        rows = re.findall(form, between("attributes", "attributes"), re.M)
+        table = between("attributes", "attributes")
+        before, after = [re.findall(form, part, re.M) for part in table.split("\n.It Em digests ")]
+        digests = re.findall(r"\w+", line_after(table, "The digests are"))
+        odd = re.findall(r"[^ ,.]+", line_after(table, "The details call the last three"))
+        details = [name.upper() for name in digests[:-3]] + odd
+        shared = [(name, name, "-", "H", detail) for name, detail in zip(digests, details)]
+        rows = [*before, *shared, *after]
         wanted = [
             (each.name, each.column, str(each.bit or "-"), each.slot, each.detail)
             for each in ATTRIBUTES
