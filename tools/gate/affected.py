@@ -82,17 +82,29 @@ class Tests:
         names |= {f"aide_compare.{text}" for text in texts if "." in text}
         return iter(names & self.modules.keys())
 
-    def of(self, path: str) -> list[str]:
-        """The modules of tests that try a file: those that use it, directly or through others."""
+    def of(self, path: str) -> dict[str, int]:
+        """The modules of tests that try a file, those that use it, with how far away they are: 0
+        for those that use or name the file itself, and one more for each module between. What
+        names only its directory is behind all these."""
         name = module_name(path)
         found = {name} & self.modules.keys()
-        if not found:
-            found = {other for other, module in self.modules.items() if module.names(path)}
         if name in FRONT or path.startswith("commands/bin/"):
             found = {other for other in self.modules if other.startswith("tests.commands.")}
-        waiting = list(found)
-        while waiting:
-            fresh = self.users[waiting.pop()] - found
-            found |= fresh
-            waiting += fresh
-        return sorted(each for each in found if each.rpartition(".")[2].startswith("test_"))
+        if not found:
+            file = os.path.basename(path)
+            found = {other for other, module in self.modules.items() if module.names(file)}
+        steps: dict[str, int] = {}
+        self._add_users(found, steps)
+        if name not in self.modules:
+            self._add_users(
+                {each for each in self.modules if self.modules[each].names(path)}, steps
+            )
+        is_test = (each for each in steps if each.rpartition(".")[2].startswith("test_"))
+        return {each: steps[each] for each in sorted(is_test)}
+
+    def _add_users(self, found: set[str], steps: dict[str, int]) -> None:
+        """Adds modules, and those that use them, with one step more for each."""
+        fresh = found - steps.keys()
+        while fresh:
+            steps.update(dict.fromkeys(fresh, max(steps.values(), default=-1) + 1))
+            fresh = {user for each in fresh for user in self.users[each]} - steps.keys()

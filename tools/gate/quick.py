@@ -1,8 +1,10 @@
 """A verdict on what was changed: the checks of the files, and the tests of the changed modules.
 
 Changed is what differs from --since (origin/main), and what git does not know yet. A changed module
-is tried by the tests that import it or start a command that runs it. With --all every test runs
-that proves nothing and takes no minutes. The tests run the program of AIDE_PROGRAM, or the last one
+is tried by the tests that import it or start a command that runs it, in the order of nearness: first
+those that use or name the file itself. After some seconds no further one begins, and how many are
+left out is said; --far runs them too. With --all every test runs that proves nothing and takes no
+minutes. The tests run the program of AIDE_PROGRAM, or the last one
 that was proved here, or else the unproved one of `tools/build_unproved`. The last line is 'N
 passed, M failed'. This is no gate: only `tools/test` proves what it runs.
 """
@@ -26,6 +28,8 @@ PYTHON = "tests.source.test_python"
 PYTHON_ENDS = (".py", "commands/bin/aide-compare", "packaging/completions", "packaging/install")
 # What compares the options of the commands with the manual.
 OPTIONS_IN_MANUAL = "tests.pages.test_blocks"
+# So long further modules of tests begin. Most take some seconds.
+SECONDS = 12.0
 # A change here that no test tries is a failure. What else has no test is a page or a tool.
 TRIED = ("commands/", "contrib/", "man/", "tests/commands/test_", "tests/program/test_")
 
@@ -55,20 +59,23 @@ def changed(since: str, tally: Tally) -> list[str]:
 
 
 def tests_for(names: list[str], tally: Tally) -> list[str]:
-    """The modules of tests for these files. A file that no test tries is a failure."""
+    """The modules of tests for these files, the nearest first. A file that no test tries is a
+    failure."""
     tests = Tests()
-    found: set[str] = set()
+    found: dict[str, int] = {}
     for name in names:
         if name.startswith("crates/"):
-            modules = unit_tests.modules("tests.program")
+            modules = dict.fromkeys(unit_tests.modules("tests.program"), 0)
         else:
             modules = tests.of(name)
         if name.startswith(TRIED) and not modules:
             tally.add(name, ["no test tries it"])
         if name.startswith(("commands/", "man/")):
-            modules.append(OPTIONS_IN_MANUAL)
-        found.update(modules)
-    return sorted(found)
+            modules.setdefault(OPTIONS_IN_MANUAL, 0 if name.startswith("man/") else 1)
+        for module, steps in modules.items():
+            found[module] = min(steps, found.get(module, steps))
+    # Those of single functions are the fastest ones.
+    return sorted(found, key=lambda module: (found[module], ".units." not in module, module))
 
 
 def find_program(tally: Tally) -> str | None:
@@ -95,17 +102,23 @@ def main() -> int:
         metavar="REVISION",
         help="what counts as changed (origin/main)",
     )
+    parser.add_argument("--far", action="store_true", help="also the tests that are far away")
     args = parser.parse_args()
     tally = Tally()
     names = [] if args.all else changed(args.since, tally)
-    modules = set(unit_tests.modules() if args.all else tests_for(names, tally))
+    modules = unit_tests.modules() if args.all else tests_for(names, tally)
     checks = set(unit_tests.modules(unit_tests.SOURCE))
     if not args.all and not any(name.endswith(PYTHON_ENDS) for name in names):
         checks.remove(PYTHON)
     unit_tests.run_all(sorted(checks), tally)
-    program = find_program(tally) if modules - checks else None
+    waiting = [module for module in modules if module not in checks]
+    program = find_program(tally) if waiting else None
     if program:
-        unit_tests.run_all(sorted(modules - checks), tally, program, is_quick=True)
+        seconds = None if args.all or args.far else SECONDS
+        print(f"{len(waiting)} modules of tests, the nearest first: {waiting[0]}", flush=True)
+        left = unit_tests.run_all(waiting, tally, program, is_quick=True, seconds=seconds)
+        if left:
+            print(f"{left} modules that are further away did not run: --far runs them", flush=True)
     return tally.status()
 
 

@@ -11,6 +11,7 @@ import re
 import subprocess
 import sys
 import tempfile
+import time
 
 from tests.lib.copies import COMPILED, copy_commands
 from tests.lib.programs import VARIABLE
@@ -84,8 +85,23 @@ def judge(module: str, status: int, text: str, tally: Tally) -> None:
         tally.add(module, ["it has no test"])
 
 
-def run_all(names: list[str], tally: Tally, program: str = "", is_quick: bool = False) -> None:
-    """Runs modules with this program, one for each processor at a time."""
+def run_all(
+    names: list[str],
+    tally: Tally,
+    program: str = "",
+    is_quick: bool = False,
+    seconds: float | None = None,
+) -> int:
+    """Runs modules with this program, one for each processor at a time, in their order. After so
+    many seconds none begins. Returns how many did not run."""
+    begun = time.monotonic()
+    left = 0
+
+    def run_one(name: str) -> tuple[str, int, str] | None:
+        if seconds is not None and time.monotonic() - begun > seconds:
+            return None
+        return run(name, environment)
+
     environment = dict(os.environ)
     if program:
         environment[VARIABLE] = program
@@ -95,5 +111,9 @@ def run_all(names: list[str], tally: Tally, program: str = "", is_quick: bool = 
     with tempfile.TemporaryDirectory(prefix="aide-compare-commands-") as directory:
         copy_commands(directory)
         environment[COMPILED] = directory
-        for done in side_by_side(jobs, lambda name: run(name, environment), names):
-            judge(*done, tally)
+        for done in side_by_side(jobs, run_one, names):
+            if done is None:
+                left += 1
+            else:
+                judge(*done, tally)
+    return left

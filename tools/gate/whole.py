@@ -42,7 +42,7 @@ class Gate(Tally):
         super().__init__()
         self.spent: list[tuple[str, float]] = []
 
-    def part(self, name: str, work: Callable[[Tally], None]) -> None:
+    def part(self, name: str, work: Callable[[Tally], object]) -> None:
         """Does a part. One that counts nothing has failed."""
         tally, before = Tally(), processor_time()
         work(tally)

@@ -1,0 +1,33 @@
+"""Which tests a change is tried by, the nearest first, and that no further one begins in the end."""
+from __future__ import annotations
+
+import unittest
+from unittest import mock
+
+from tests.lib.tally import Tally
+from tools.gate import quick, unit_tests
+from tools.gate.affected import Tests
+
+
+class AffectedTest(unittest.TestCase):
+    def test_nearest(self) -> None:
+        """What uses or names a file is nearer than what uses that."""
+        tests = Tests()
+        table = tests.of("commands/share/severity.conf")
+        self.assertEqual(table["tests.commands.units.test_severity"], 0)
+        self.assertLess(0, table["tests.commands.test_standings"])
+        names = quick.tests_for(["commands/share/severity.conf"], Tally())
+        self.assertEqual(names[0], "tests.commands.units.test_severity")
+        self.assertGreater(len(names), 30)
+        self.assertLess(names.index("tests.commands.test_state"), names.index(names[-1]))
+        module = tests.of("commands/lib/aide_compare/compare/history.py")
+        self.assertIn("tests.commands.test_history", module)
+
+    def test_time(self) -> None:
+        """After some seconds no further module begins, and their number is known."""
+        names = ["tests.source.test_layers"] * 3
+        with mock.patch.object(unit_tests, "copy_commands"):
+            self.assertEqual(unit_tests.run_all(names, Tally(), seconds=-1.0), 3)
+            tally = Tally()
+            self.assertEqual(unit_tests.run_all(names[:1], tally), 0)
+        self.assertGreater(tally.passed, 0)
