@@ -11,17 +11,31 @@ BUILT = os.path.join(TOP, "crates", "aide", "out", "aide")
 
 def find_program() -> str:
     """The whole path of the program `aide`. A test without one fails, and says how to get one."""
-    path = os.path.abspath(os.environ.get(VARIABLE) or BUILT)
+    return found(os.environ.get(VARIABLE) or BUILT)
+
+
+def found(program: str) -> str:
+    path = os.path.abspath(program)
     if not os.access(path, os.X_OK):
         raise AssertionError(
-            f"no program: run tools/build_unproved, then export {VARIABLE}={BUILT}-unproved"
+            f"no program {path}: run tools/build_unproved, then export {VARIABLE}={BUILT}-unproved"
         )
     return path
 
 
+def find_planned_program() -> str:
+    """The whole path of the program whose devices fail by a plan."""
+    return found(beside(os.environ.get(VARIABLE) or BUILT, "aide_planned"))
+
+
 def lines_program_of(program: str) -> str:
-    """The whole path of the program of lines: in its own crate, or beside the program `aide`."""
+    """The whole path of the program of lines."""
+    return beside(program, "aide_lines")
+
+
+def beside(program: str, other: str) -> str:
+    """The whole path of another program: in its own crate, or beside the program `aide`."""
     directory, name = os.path.split(os.path.abspath(program))
     if directory.endswith("/crates/aide/out"):
-        directory = os.path.join(directory, "..", "..", "aide_lines", "out")
-    return os.path.abspath(os.path.join(directory, "aide_lines" + name[len("aide") :]))
+        directory = os.path.join(directory, "..", "..", other, "out")
+    return os.path.abspath(os.path.join(directory, other + name[len("aide") :]))

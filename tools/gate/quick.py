@@ -31,7 +31,8 @@ OPTIONS_IN_MANUAL = "tests.pages.test_blocks"
 # So long further modules of tests begin. Most take some seconds.
 SECONDS = 12.0
 # A change here that no test tries is a failure. What else has no test is a page or a tool.
-TRIED = ("commands/", "contrib/", "man/", "tests/commands/test_", "tests/program/test_")
+TRIED = ("commands/", "contrib/", "man/")
+TRIED += ("tests/commands/test_", "tests/planned/test_", "tests/program/test_")
 
 
 # What users see: an entry of a list in the manual, such as an option, and a row of severities.
@@ -65,7 +66,8 @@ def tests_for(names: list[str], tally: Tally) -> list[str]:
     found: dict[str, int] = {}
     for name in names:
         if name.startswith("crates/"):
-            modules = dict.fromkeys(unit_tests.modules("tests.program"), 0)
+            near = unit_tests.modules("tests.program") + unit_tests.modules("tests.planned")
+            modules = dict.fromkeys(near, 0)
         else:
             modules = tests.of(name)
         if name.startswith(TRIED) and not modules:

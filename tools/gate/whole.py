@@ -27,12 +27,15 @@ PROGRAMS = (
     PROGRAM,
     "crates/aide_lines/out/aide_lines",
     "crates/aide_in_memory/out/aide_in_memory",
+    "crates/aide_planned/out/aide_planned",
 )
 # What a check takes at the most, as it was seen: 1.6 GB, and more for a crate with many functions.
 BYTES_OF_A_CHECK = 2_200_000_000
 COUNTED = re.compile(r"(\d+) passed, (\d+) failed\n?")
 # The tests that the builds for newer processors run too.
 OF_PROGRAMS = "tests.program"
+# The tests of the program whose devices fail by a plan.
+OF_PLANS = "tests.planned"
 
 
 class Gate(Tally):
@@ -82,7 +85,8 @@ def try_unproved(tally: Tally) -> None:
     """The tests of the programs, over programs that are built without their proofs."""
     if all([unproved.made(name) for name in unproved.NAMES]):
         program = f"{PROGRAM}-unproved"
-        unit_tests.run_all(unit_tests.modules(OF_PROGRAMS), tally, program, is_quick=True)
+        names = unit_tests.modules(OF_PROGRAMS) + unit_tests.modules(OF_PLANS)
+        unit_tests.run_all(names, tally, program, is_quick=True)
     else:
         tally.add("the programs without their proofs", ["were not built"])
 

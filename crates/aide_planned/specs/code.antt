@@ -1,0 +1,2 @@
+-- Definitions for steps inside the code. No clause of a public call cites them.
+pub mod Openings

@@ -1,0 +1,1 @@
+"""Runs and sessions whose devices fail by a plan, each beside the definitions in tests/oracle."""
