@@ -4,13 +4,13 @@ mod by_clauses;
 mod by_run;
 mod by_run_clauses;
 mod by_session;
+mod summary;
 
-use super::session::{site_of, words_of};
-use super::summary::{CONFIG, CUT, NEW, OLD, REPORT};
 use aide_conf::{Need, Settings};
 use aide_db::{Desk, MemorySources};
 use aide_site::{MemorySite, SiteWithDesk};
 use aide_text::MemorySink;
+use aide_words::{Memory, Words};
 use by_clauses::{lines_on, report_on};
 use by_run::{LIMITS, Refusal, counts_of};
 use by_run_clauses::{
@@ -20,6 +20,30 @@ use by_run_clauses::{
 use by_session::run_session;
 use std::alloc::Global;
 use std::test::Fail;
+use summary::{CONFIG, CUT, NEW, OLD, REPORT};
+
+/// The arguments of a command line, which are separated by blanks in `line`.
+fn words_of(alloc: Global, line: &str) -> Result<Words, Memory> {
+    let mut words = Words::new(alloc);
+    for word in line.split(' ') {
+        words.push(word)?;
+    }
+    Ok(words)
+}
+
+/// A site with a configuration and two databases.
+fn site_of<'a>(
+    alloc: Global,
+    conf: &'a [u8],
+    old: &'a [u8],
+    new: &'a [u8],
+) -> Result<MemorySite<'a>, Memory> {
+    let mut site = MemorySite::new(alloc);
+    site.add("/conf", conf)?;
+    site.add("/old", old)?;
+    site.add("/new", new)?;
+    Ok(site)
+}
 
 #[test]
 fn counts_by_run(rt: HostRuntime) -> Result<(), Fail> {
