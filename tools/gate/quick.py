@@ -31,8 +31,10 @@ OPTIONS_IN_MANUAL = "tests.pages.test_blocks"
 # So long further modules of tests begin. Most take some seconds.
 SECONDS = 12.0
 # A change here that no test tries is a failure. What else has no test is a page or a tool.
-TRIED = ("commands/", "contrib/", "man/")
-TRIED += ("tests/commands/test_", "tests/planned/test_", "tests/program/test_")
+TRIED = (
+    *("commands/", "contrib/", "man/"),
+    *("tests/commands/test_", "tests/planned/test_", "tests/program/test_"),
+)
 
 
 # What users see: an entry of a list in the manual, such as an option, and a row of severities.
