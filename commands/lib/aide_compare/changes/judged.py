@@ -10,7 +10,6 @@ import re
 from collections import Counter
 from collections.abc import Iterator
 from functools import cached_property
-from itertools import islice
 
 from aide_compare.base.ending import DeviceFault
 from aide_compare.base.escapes import shown
@@ -19,10 +18,10 @@ from aide_compare.base.words import SEVERITIES, counted, status_of_counts
 from aide_compare.changes.recorded import Dpkg, Matcher, Rpm
 from aide_compare.changes.severity import Severity
 from aide_compare.changes.table import Marks, Table, ChangeRow
-from aide_compare.changes.weighing import OTHERS, Weights, directory_of, is_of_directory
+from aide_compare.changes.weighing import OTHERS, Weight, Weights, directory_of, is_of_directory
 from aide_compare.compare.line_room import NO_OTHERS, Others
 from aide_compare.lines.change import Change, ChangeLine, Counts, Standing
-from aide_compare.lines.change import account_of, change_line, change_of, parsed
+from aide_compare.lines.change import change_line, change_of, parsed
 from aide_compare.lines.reader import Reader
 
 LINE_AT = "select line_at, line_size from changes where place = ?"
@@ -30,6 +29,7 @@ COUNTS = "select standing, level, kind, sum(size) from numbers group by 1, 2, 3"
 # The titles above the packages that people hear of first.
 TITLES = ("Unsigned packages", "New packages", "Removed packages")
 MAX_MEMBERS = 1000
+STANDINGS = list(Standing)
 # So many changes are parsed once and no more, unless their lines are long.
 MAX_KEPT = 400
 MAX_LINE = 1 << 11
@@ -55,6 +55,7 @@ class Judged:
         # Directories with another number of links, and a directory in each that is left out.
         self.members: dict[bytes, str] = {}
         self._kept: dict[int, ChangeLine] = {}  # The first ones, by their places.
+        self._standings = bytearray()  # Of all, by their places among STANDINGS.
         self.table = Table()
         beyond = self.table.add(self._values(reader))
         self.lines_there = reader.counts.changes
@@ -86,9 +87,12 @@ class Judged:
         weights = Weights()
         line_at = self.begin
         place = 0
+        last: Weight | None = None
+        above = b""
         for change in reader.changes():
             size = len(change.line)
             silent = change.silent
+            self._standings.append(STANDINGS.index(silent or Standing.OPEN))
             if silent:
                 self.silent[silent.key] += 1
                 if change.left_out:
@@ -99,13 +103,20 @@ class Judged:
                 if place <= MAX_KEPT and size <= MAX_LINE:
                     self._kept[place] = change
                 directory, _, name = change.path.rpartition(b"/")
-                results, owners, user, recordable, has_other_links = weights.of(change)
-                rank = severity.ranks(directory, results)(name)
+                weight = weights.of(change)
+                key = key_of_path(change.path)
+                # Most changes are in the directory of the one before. The root is in none.
+                if weight is not last or directory != above or not directory:
+                    last = weight
+                    above = directory
+                    results, owners, user, recordable, has_other_links = weight
+                    rank_of = severity.ranks(directory, results)
+                    directory_key = directory_of(key)
+                kind = change.kind
+                rank = rank_of(name)
                 if has_other_links and len(self.members) < MAX_MEMBERS:
                     self.members[change.path] = ""
-                key = key_of_path(change.path)
-                above = directory_of(key)
-                yield key, above, change.kind, owners, rank, user, recordable, line_at, size
+                yield key, directory_key, kind, owners, rank, user, recordable, line_at, size
             line_at += size
 
     def _note_member(self, change: ChangeLine) -> None:
@@ -147,13 +158,12 @@ class Judged:
         _, next_at, marks = next(others, nothing)
         self.file.seek(self.begin)
         line_at = self.begin
-        for line in islice(self.file, self.lines_there):
+        for line, standing in zip(self.file, self._standings):
             if line_at == next_at:
                 yield line, marks
                 _, next_at, marks = next(others, nothing)
             else:
-                account = account_of(parsed(line)) or Standing.OPEN
-                yield line, Marks(account.value)
+                yield line, Marks(STANDINGS[standing].value)
             line_at += len(line)
 
     def line(self, place: int) -> ChangeLine:
