@@ -231,7 +231,7 @@ class AcceptPartlyTest(AcceptingTest):
         """An added, a removed and a changed path stay open; all else is accepted. Once more,
         nothing changes."""
         entries = b"it contains the new entries, but for what stays open the former ones: "
-        counts = entries + b"added 1, removed 1, changed 1\n"
+        counts = entries + b"1 added, 1 removed, 1 changed\n"
         told = [b"now, but for what stays open: ", sha256(KEPT).encode(), counts]
         for owner in (None, NOBODY):
             with self.subTest(owner=owner):

@@ -23,7 +23,7 @@ NOTE = "canary www1: what changed there in the same way is silent on the other h
 USED = f"C{NOTE[1:]}\n"
 NAMES = ("www1", "www2", "www3", "www4")
 MARK = b"/usr/bin/mark"
-FIVE = "added 0, removed 0, changed 5: "
+FIVE = "0 added, 0 removed, 5 changed: "
 # A state of another database than the one that is there.
 OTHER = """
 copy = copy_database
@@ -175,8 +175,8 @@ class CanaryTest(CommandTest):
             hosts.put(host, *texts)
         lines = self.compared(hosts, "--canary", "www1")
         silent = "1 change, all silent; left out: 1 of 1 change"
-        self.assertEqual(lines[0], f"www1 0 added 0, removed 0, changed 1: {silent}")
-        told = "www2 4 added 0, removed 0, changed 1: 1 open (1 high) of 1 change"
+        self.assertEqual(lines[0], f"www1 0 0 added, 0 removed, 1 changed: {silent}")
+        told = "www2 4 0 added, 0 removed, 1 changed: 1 open (1 high) of 1 change"
         self.assertIn(told, lines)
 
 

@@ -17,7 +17,7 @@ from .units.calls import misused
 from .sandbox import AS_NOBODY, CommandTest, END, NEW, OLD, sha256
 
 COMPARE = "aide-compare hosts compare"
-COUNTS = "added 1, removed 1, changed 2"
+COUNTS = "1 added, 1 removed, 2 changed"
 DIFFERS = f"7 {COUNTS}: 4 open of 4 changes"
 PAIR = ("good1", "good2", "good3", "good4", "good5", "good6")
 # It asks for a key where no way to log in is tried, and knows it then.
@@ -137,7 +137,7 @@ class FleetTest(CommandTest):
         said = fleet.compare("--max-size", "200M", "--jobs", "3", hosts)
         self.assertEqual(said.status, 7, said)
         self.check_pair(said)
-        line = "evil 4 added 0, removed 0, changed 60: 60 open of 60 changes\n"
+        line = "evil 4 0 added, 0 removed, 60 changed: 60 open of 60 changes\n"
         self.assertIn(line, said.output_text)
         self.assertIn("\nchanged=60\n", fleet.state("evil"))
         folder = self.path("store/hosts/evil")

@@ -19,7 +19,7 @@ from .test_sorting import MEASURE
 
 SHELL = ["sh", "-c"]
 PAIR = ("good1", "good2")
-COMPARED = "7 added 1, removed 1, changed 2: 4 open of 4 changes"
+COMPARED = "7 1 added, 1 removed, 2 changed: 4 open of 4 changes"
 # What a process may take, in kB. With its modules the interpreter takes 18 MB of it.
 LIMIT = 48 << 10
 COLUMNS = 170000

@@ -143,7 +143,7 @@ class HostsReportTest(CommandTest):
             "\nhigh on 1 of 5 hosts: www4\nadded File: /usr/.x\n",
             "on 4 of 5 hosts: www1, www2 and 2 more\nchanged File: /etc/p\n",
             "\n    mode       (various) -> -rw-------\n",
-            "\n  www4: added 1, removed 1, changed 2: 4 open",
+            "\n  www4: 1 added, 1 removed, 2 changed: 4 open",
         ):
             self.assertIn(part, said.output_text)
 

@@ -183,7 +183,7 @@ try_ssh() {
     printf 'www\n' > /etc/aide-compare/hosts
     check 'aide-compare hosts compare by ssh' ends_with 7 aide-compare hosts compare /etc/aide-compare/hosts
     aide-compare hosts compare --quiet /etc/aide-compare/hosts > "$folder/lines"
-    check 'the line of a host' grep -q '^www 7 added 1, removed 1, changed 1: 3 open ' "$folder/lines"
+    check 'the line of a host' grep -q '^www 7 1 added, 1 removed, 1 changed: 3 open ' "$folder/lines"
 }
 
 try_ansible() {

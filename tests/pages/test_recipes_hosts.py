@@ -15,9 +15,9 @@ from tests.pages.recipes import NEW, OLD, RecipesTest
 # What each host sends, ends with, and what its line says.
 SENT: dict[str, tuple[str | bytes, int, str]] = {
     "same": (OLD, 0, "no differences"),
-    "other": (NEW, 7, "added 1, removed 1, changed 1"),
+    "other": (NEW, 7, "1 added, 1 removed, 1 changed"),
     "zipped": (gzip.compress(OLD.encode()), 0, "no differences"),
-    "user@other.example-1": (NEW, 7, "added 1, removed 1, changed 1"),
+    "user@other.example-1": (NEW, 7, "1 added, 1 removed, 1 changed"),
     "forged": ("x\n", 24, "no @@begin_db"),
     "cut": (gzip.compress(os.urandom(2000) + NEW.encode())[:-100], 18, "cut short|damaged"),
     "down": (OLD, 18, "No route to host"),

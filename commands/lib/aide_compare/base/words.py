@@ -2,6 +2,7 @@
 from __future__ import annotations
 
 import time
+from collections.abc import Iterable
 
 # In the order in which states, lines and pages have them.
 SIDES = ("old", "new")
@@ -39,6 +40,11 @@ def age_in_words(seconds: float) -> str:
         if seconds < unit * limit:
             return counted(int(seconds // unit), name)
     return counted(int(seconds // 86400), "day")
+
+
+def words_of_kinds(counts: Iterable[int | None]) -> str:
+    """As in "1 added, 2 removed, 3 changed"."""
+    return ", ".join(f"{count} {kind}" for count, kind in zip(counts, KINDS))
 
 
 def counted(number: int, word: str) -> str:

@@ -31,7 +31,7 @@ TITLES = ("Unsigned packages", "New packages", "Removed packages")
 MAX_MEMBERS = 1000
 STANDINGS = list(Standing)
 # So many changes are parsed once and no more, unless their lines are long.
-MAX_KEPT = 400
+MAX_KEPT = 100
 MAX_LINE = 1 << 11
 MAX_MEMBER_NAME = 100
 # The files of a package among dpkg's records.

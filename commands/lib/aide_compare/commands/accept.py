@@ -16,7 +16,7 @@ from aide_compare.base.options import KEEP_OPEN, MAX_SIZE, QUIET, SHA256, Reques
 from aide_compare.base.parser import Defaults, Help, read, read_defaults
 from aide_compare.base.paths import Pattern
 from aide_compare.base.terminal import answer_to
-from aide_compare.base.words import KINDS, date_of, minute_of
+from aide_compare.base.words import KINDS, date_of, minute_of, words_of_kinds
 from aide_compare.commands.compare import Printer
 from aide_compare.commands.compare_request import PrintRequest, with_defaults, work_request
 from aide_compare.commands.defaults import machines_databases
@@ -216,7 +216,7 @@ def lines_of(request: AcceptRequest, accepted: Accepted) -> Iterator[str]:
     date = "at an unknown time" if written is None else date_of(written)
     yield f"new: SHA-256 {accepted.new.sha256}, {request.came} {date}"
     if accepted.merged:
-        kinds = ", ".join(f"{kind} {accepted.merged.counts[kind]}" for kind in KINDS)
+        kinds = words_of_kinds(accepted.merged.counts[kind] for kind in KINDS)
         yield (
             f"baseline: SHA-256 {accepted.sha256}; it contains the new entries, but for what stays"
             f" open the former ones: {kinds}"

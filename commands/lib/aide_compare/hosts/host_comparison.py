@@ -24,7 +24,7 @@ from aide_compare.base.options import (
     option,
 )
 from aide_compare.base.replacement import NewFile, replace
-from aide_compare.base.words import age_in_words
+from aide_compare.base.words import age_in_words, words_of_kinds
 from aide_compare.compare import work
 from aide_compare.compare.comparison import NO_COPIES, Comparison, ComparisonInput
 from aide_compare.compare.configuration import NONE
@@ -147,8 +147,7 @@ def as_not_compared(directory: HostDirectory, state: State, why: str) -> State:
     """The same State with the status of a comparison that says nothing of today."""
     text = f"{directory.host}: {why}"
     if state.status and state.counts:
-        text += f"; it differs: added {state.added}, removed {state.removed}"
-        text += f", changed {state.changed}"
+        text += f"; it differs: {words_of_kinds(state.counts)}"
     return state._replace(
         status=Status.DEVICE, error=text, added=None, removed=None, changed=None, standings=None
     )

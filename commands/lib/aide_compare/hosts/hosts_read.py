@@ -10,7 +10,7 @@ from contextlib import ExitStack, closing
 from aide_compare.base.ending import DeviceFault, Fault, Status, reason
 from aide_compare.base.escapes import shown
 from aide_compare.base.files import BLOCK, is_missing, open_regular
-from aide_compare.base.words import SIDES, age_in_words
+from aide_compare.base.words import SIDES, age_in_words, words_of_kinds
 from aide_compare.compare.state import State, read_state
 from aide_compare.hosts.report_values import CUT, UNREADABLE, WHOLE, Host
 from aide_compare.hosts.store import LINES, HostDirectory, check_name
@@ -26,7 +26,7 @@ def words_of(state: State) -> str:
     """What a comparison has counted."""
     if not state.status:
         return "no differences"
-    text = f"added {state.added}, removed {state.removed}, changed {state.changed}"
+    text = words_of_kinds((state.added, state.removed, state.changed))
     if state.standings:
         text += f": {state.standings.words()}"
         if state.standings.left_out:

@@ -5,7 +5,7 @@ from collections.abc import Iterable, Iterator
 
 from aide_compare.base.escapes import guarded
 from aide_compare.base.options import MAX_RESULT_AGE
-from aide_compare.base.words import SEVERITIES, age_in_words, minute_of
+from aide_compare.base.words import SEVERITIES, age_in_words, minute_of, words_of_kinds
 from aide_compare.compare.state import State, not_compared
 
 
@@ -15,7 +15,7 @@ def result_text(state: State) -> str:
         return f"failure, status {state.status}: {state.error}"
     text = "no difference"
     if state.status:
-        text = f"{state.added} added, {state.removed} removed, {state.changed} changed"
+        text = words_of_kinds((state.added, state.removed, state.changed))
         if state.standings:
             text = f"{state.standings.words()}: {text}"
             if state.standings.left_out:
