@@ -32,8 +32,8 @@ LINES_OF_30_AND_31 = LINES_OF_30.replace(b"b 1", b"bb 1")
 
 
 def large(rest: int, size: int) -> bytes:
-    """The entries with numbers below 200,200, without those whose remainder by 1,001 is `rest`. Each
-    entry is 30 bytes long. One in 1,001 has the given size."""
+    """The entries with numbers below 200,200, without those whose remainder by 1,001 is `rest`.
+    Each entry is 30 bytes long. One in 1,001 has the given size."""
     entries = [
         b"/directory/of/files/%06d/f %d\n" % (number, size if number % 1001 == 7 else 0)
         for number in range(200_200)

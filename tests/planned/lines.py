@@ -94,9 +94,9 @@ def given_of(texts: Iterable[bytes], rules: bytes = b"") -> Given:
 
 
 # Two databases that differ, one of them with a column that is skipped, and the same database twice,
-# each beside a trusted pair without entries. Then two beside a trusted pair that knows their changes
-# but one, and two beside a trusted pair and a list: each rule leaves one change out, the trusted
-# pair accounts for another that a rule names, and a program with a set-ID bit stays.
+# each beside a trusted pair without entries. Then two beside a trusted pair that knows all their
+# changes but one, and two beside a trusted pair and a list: each rule leaves one change out, the
+# trusted pair accounts for another that a rule names, and a program with a set-ID bit stays.
 GIVEN = [
     given_of([OLD, SKIPPING, EMPTY, EMPTY]),
     given_of([SKIPPING, SKIPPING, EMPTY, EMPTY]),

@@ -1,5 +1,5 @@
-"""Runs that write the report, over devices that fail, change, or move few bytes at a time, with what
-is wanted of each: the answer, what was written, how often each side was opened."""
+"""Runs that write the report, over devices that fail, change, or move few bytes at a time, with
+what is wanted of each: the answer, what was written, how often each side was opened."""
 from __future__ import annotations
 
 from collections.abc import Iterable, Iterator

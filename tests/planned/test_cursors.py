@@ -1,5 +1,5 @@
-"""Databases read by a cursor: sound, faulty, cut and too long ones, from readers that give few bytes
-at a time, fail or never end, on desks that are refused memory."""
+"""Databases read by a cursor: sound, faulty, cut and too long ones, from readers that give few
+bytes at a time, fail or never end, on desks that are refused memory."""
 from __future__ import annotations
 
 import hashlib

@@ -40,11 +40,12 @@ class KitTest(ScratchTest):
             copy_directory(os.path.join(TOP, name), self.path("clone", name))
         shutil.copy(os.path.join(TOP, "tests/__init__.py"), self.path("clone/tests"))
         self.write(
-            "clone/crates.txt", "low:\nhigh: low\naside:\naide: high\naide_lines: high aside\n"
+            "clone/crates.txt",
+            "low:\nhigh: low\naside:\naide: high\naide_lines: high aside\naide_planned: high\n",
         )
         for name in ("low", "high", "aside"):
             self.write(f"clone/crates/{name}/src/lib.rt", "//! A library.\n")
-        for name in ("aide", "aide_lines"):
+        for name in ("aide", "aide_lines", "aide_planned"):
             self.write(f"clone/crates/{name}/src/main.rt", "//! A program.\n")
         self.write("kit/START-HERE.md", "Read this.\n")
         self.write("kit/toolchain/bin/clang", CLANG, 0o755)
