@@ -144,11 +144,15 @@ def both_values(change: Change) -> Fields:
     return {"old": values_of(change.old, texts.old), "new": values_of(change.new, texts.new)}
 
 
+def head_of(change: Change, marks: Fields) -> Fields:
+    """What the row of a change always has, with some marks."""
+    labels = labels_of(change.old, change.new)
+    return {"kind": change.kind, "path": shown(change.path), "labels": labels, **marks}
+
+
 def row_of(change: Change, marks: Fields) -> list[Fields]:
     """The row of a change: what is always there with some marks, and its values."""
-    labels = labels_of(change.old, change.new)
-    head = {"kind": change.kind, "path": shown(change.path), "labels": labels, **marks}
-    return [head, both_values(change)]
+    return [head_of(change, marks), both_values(change)]
 
 
 class PageRows:
@@ -165,13 +169,14 @@ class PageRows:
         self.valued = 0
 
     def add(self, fields: Fields, marks: Marks) -> None:
-        head, values = map(embedded, row_of(change_of(fields), marks.known()))
+        change = change_of(fields)
+        head = embedded(head_of(change, marks.known()))
         self.size += len(head) + BESIDE
         self.count += 1
-        if self.values_size <= self.limit:
+        values = b""
+        if self.values_size <= self.limit:  # Otherwise no values have room any more.
+            values = embedded(both_values(change))
             self.values_size += len(values)
-        else:  # No values have room any more.
-            values = b""
         self.file.write(head + b"\n" + values + b"\n")
 
     def chosen(self, room: int) -> Iterator[bytes]:
@@ -209,8 +214,9 @@ class PageRows:
 def changes_in_order(judged: Judged) -> Iterator[tuple[Fields, Marks]]:
     """The objects of all changes with their marks, those that are read first before the others."""
     table = judged.table
-    for place, _, marks in chain(table.marks(LISTED), table.marks(RECORDED, order=BY_PACKAGE)):
-        yield judged.line(place).fields, marks
+    marked = chain(table.marks(LISTED), table.marks(RECORDED, order=BY_PACKAGE))
+    for place, line_at, line_size, marks in marked:
+        yield judged.fields(place, line_at, line_size), marks
     if judged.counts.silent:
         for line, marks in judged.lines():
             if not marks.severity:
