@@ -22,7 +22,7 @@ from tests.lib.tally import Tally, side_by_side
 EXPECTED = re.compile(
     "it needs root(, and unshare)?"
     "|it takes long"
-    "|not installed: [a-z0-9 -]+"
+    "|not installed: [a-z0-9_ -]+"
     "|nothing can be (mounted|leased) here"
     "|no device can be made here"
     "|there is no address [0-9a-z:.]+ here"

@@ -5,7 +5,7 @@ import time
 
 # The kernel writes into a file the time of its last tick, which is up to a hundredth of a second
 # behind its clock; a file on another machine's disk has that one's time.
-LAG = 0.1
+LAG = 0.02
 
 
 def before_now() -> float:
