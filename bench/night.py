@@ -14,7 +14,7 @@ from pathlib import Path
 TOP = Path(__file__).resolve().parent.parent
 sys.path.insert(0, str(TOP))
 
-from tests.nights.machine import Machine, make_base  # noqa: E402
+from tests.nights.machine import RELEASES, Machine, make_base  # noqa: E402
 from tests.nights.nights import EVENTS, Nights  # noqa: E402
 from tools.lib.arguments import parser_of  # noqa: E402
 
@@ -36,12 +36,14 @@ def main() -> int:
     parser.add_argument("--work", type=Path, required=True, help="a directory for the machine")
     parser.add_argument("--package", type=Path, required=True, help="the package of aide-compare")
     arguments = parser.parse_args()
-    make_base(arguments.work / "base-13", "13")
+    release, base = RELEASES["13"], arguments.work / "base-13"
+    make_base(base, release)
     machine = Machine(arguments.work / "night", "night")
-    nights = Nights(machine, arguments.work / "results", with_intruder=False, is_stock=False)
-    machine.make(arguments.work / "base-13", "exim4")
+    results = arguments.work / "results"
+    nights = Nights(machine, release, results, with_intruder=False, is_stock=False)
+    machine.make(base, "exim4")
     try:
-        nights.prepare(arguments.package, "13")
+        nights.prepare(arguments.package)
         machine.boot()
         nights.set_up()
         for number, event in enumerate(("first", "idle")):

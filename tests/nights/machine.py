@@ -1,4 +1,5 @@
-"""A Debian in a directory: made by mmdebstrap, booted by systemd-nspawn, with commands inside."""
+"""A Debian or an Ubuntu in a directory: made by mmdebstrap, booted by systemd-nspawn, with commands
+inside."""
 from __future__ import annotations
 
 import mailbox
@@ -8,18 +9,55 @@ import shutil
 import subprocess
 import time
 from pathlib import Path
+from typing import NamedTuple
 
-SUITES = {"12": "bookworm", "13": "trixie"}
-MIRROR = "http://deb.debian.org/debian"
-KEYRING = "/usr/share/keyrings/debian-archive-keyring.gpg"
+
+class Release(NamedTuple):
+    """Where the packages of a release come from, and what its name for a small kernel is."""
+
+    suite: str
+    mirror: str
+    # The archive of security updates, and its suite.
+    security: str
+    components: str
+    keyring: str
+    kernel: str
+    # What is installed beside PACKAGES.
+    also: tuple[str, ...] = ()
+
+    def source(self) -> str:
+        """The line of sources.list for the release as it was published."""
+        return f"deb [signed-by={self.keyring}] {self.mirror} {self.suite} {self.components}"
+
+
+def debian(suite: str, also: tuple[str, ...] = ()) -> Release:
+    """A release of Debian."""
+    mirror = "http://deb.debian.org/debian"
+    security = f"{mirror}-security {suite}-security"
+    keyring = "/usr/share/keyrings/debian-archive-keyring.gpg"
+    return Release(suite, mirror, security, "main", keyring, "linux-image-cloud-amd64", also)
+
+
+# Debian 12 has a system log in files too, Debian 13 only the journal.
+RELEASES = {
+    "12": debian("bookworm", ("rsyslog",)),
+    "13": debian("trixie"),
+    "ubuntu-24.04": Release(
+        "noble",
+        "http://archive.ubuntu.com/ubuntu",
+        "http://security.ubuntu.com/ubuntu noble-security",
+        "main universe",
+        "/usr/share/keyrings/ubuntu-archive-keyring.gpg",
+        "linux-image-virtual",
+        ("rsyslog",),
+    ),
+}
 # AIDE is not among them: it is installed on the booted machine, as administrators do it.
 PACKAGES = (
     "apt apt-listchanges bsdutils ca-certificates cron curl dbus gpgv iproute2 kmod less"
     " libpam-systemd login logrotate man-db openssh-server openssl passwd polkitd procps python3"
     " sudo systemd-sysv systemd-timesyncd udev unattended-upgrades vim-tiny libcap2-bin acl"
 ).split()
-# Debian 12 has a system log in files too, Debian 13 only the journal.
-ALSO: dict[str, list[str]] = {"12": ["rsyslog"], "13": []}
 MAILERS = {
     "exim4": ["exim4-daemon-light"],
     "postfix": ["postfix"],
@@ -46,22 +84,21 @@ def run(words: list[str], **more: object) -> subprocess.CompletedProcess[bytes]:
     return subprocess.run(words, check=True, stdin=subprocess.DEVNULL, **more)  # type: ignore
 
 
-def make_base(directory: Path, debian: str) -> None:
-    """Makes a Debian without a mailer, once for all machines with this number."""
+def make_base(directory: Path, release: Release) -> None:
+    """Makes a machine without a mailer, once for all machines of this release."""
     if directory.exists():
         return
-    source = f"deb [signed-by={KEYRING}] {MIRROR} {SUITES[debian]} main"
     run(
         [
             "mmdebstrap",
             "--mode=root",
             "--variant=apt",
             '--aptopt=Apt::Install-Recommends "false"',
-            "--include=" + ",".join([*PACKAGES, *ALSO[debian]]),
+            "--include=" + ",".join([*PACKAGES, *release.also]),
             "--skip=cleanup/apt/lists",
-            SUITES[debian],
+            release.suite,
             str(directory),
-            source,
+            release.source(),
         ],
         **QUIET,
     )

@@ -1,4 +1,4 @@
-"""Nights of booted Debian machines with each mail system, by hand: what differs, and what is
+"""Nights of booted Debian and Ubuntu machines with each mail system, by hand: what differs, and what is
 mailed.
 
 For each machine: `aide-compare setup`, then one night after the other. A night is an event,
@@ -17,7 +17,7 @@ import time
 from pathlib import Path
 
 from tools.lib.arguments import parser_of
-from tests.nights.machine import MAILERS, SUITES, Machine, make_base, texts_of_mail
+from tests.nights.machine import MAILERS, RELEASES, Machine, Release, make_base, texts_of_mail
 
 HERE = Path(__file__).parent
 NEW = "/var/lib/aide/aide.db.new"
@@ -35,7 +35,6 @@ LOG_IN = (
 # Packages that an event installs, downloaded while the machine is off.
 SETUP = "aide aide-common"
 INSTALL = "nginx-light jq tree"
-KERNEL = "linux-image-cloud-amd64"
 DAILY = """
 logger -p auth.info 'nights: a line'; logger -p mail.info 'nights: a line'; logger 'nights: a line'
 printf 'Subject: cron\\n\\na job said something\\n' | sendmail -oi root
@@ -63,7 +62,7 @@ EVENTS = {
     "session": "/root/sessions.sh",
     "install": f"apt-get install -y {INSTALL}",
     "upgrade": "unattended-upgrade -v",
-    "kernel": f"apt-get install -y {KERNEL}",
+    "kernel": "apt-get install -y {kernel}",
     # The list names this program as one that changes.
     "program": f"echo true >> {PROGRAM}",
 }
@@ -81,27 +80,32 @@ class Nights:
     """The nights of one machine, and what came of them."""
 
     def __init__(
-        self, machine: Machine, results: Path, with_intruder: bool, is_stock: bool
+        self,
+        machine: Machine,
+        release: Release,
+        results: Path,
+        with_intruder: bool,
+        is_stock: bool,
     ) -> None:
         self.machine = machine
+        self.release = release
         self.results = results
         self.with_intruder = with_intruder
         self.is_stock = is_stock
         self.met: set[str] = set()  # Events that had their twin.
         results.mkdir(parents=True, exist_ok=True)
 
-    def prepare(self, package: Path, debian: str) -> None:
+    def prepare(self, package: Path) -> None:
         """Everything that the events need later, so that no night needs a network."""
-        machine = self.machine
-        suite = SUITES[debian]
-        source = f"deb http://deb.debian.org/debian-security {suite}-security main\n"
+        machine, release = self.machine, self.release
+        source = f"deb {release.security} {release.components}\n"
         machine.write("etc/apt/sources.list.d/security.list", source)
         machine.chroot("apt-get", "update")
         machine.chroot("apt-get", "clean")
         self.download("setup", "install", *SETUP.split())
         self.download("install", "install", *INSTALL.split())
         self.download("upgrade", "upgrade")
-        self.download("kernel", "install", *KERNEL.split())
+        self.download("kernel", "install", release.kernel)
         shutil.copyfile(package, machine.root / "var/tmp/aide-compare.deb")
         machine.chroot("ssh-keygen", "-q", "-t", "ed25519", "-N", "", "-f", "/root/.ssh/id_ed25519")
         for home, owner in (("root", "root"), ("home/anna", "anna")):
@@ -174,7 +178,7 @@ class Nights:
             self.machine.boot()
         name = f"{number:02}-{event}"
         self.hand_over(event)
-        self.shell(name, EVENTS[event])
+        self.shell(name, EVENTS[event].replace("{kernel}", self.release.kernel))
         self.report(name, self.check())
         clean = self.keep_database(name)
         if self.with_intruder and event not in {"first", *self.met}:
@@ -272,19 +276,22 @@ def main() -> int:
     parser = parser_of("tests.nights.nights", __doc__)
     parser.add_argument("--work", type=Path, required=True, help="a directory for the machines")
     parser.add_argument("--package", type=Path, required=True, help="the package of aide-compare")
-    parser.add_argument("--debian", choices=SUITES, required=True)
+    parser.add_argument("--release", choices=RELEASES, required=True)
     parser.add_argument("--mailer", choices=MAILERS, required=True)
     parser.add_argument("--intruder", action="store_true", help="each event has a twin")
     parser.add_argument("--stock", action="store_true", help="all digests of AIDE's stock rules")
     parser.add_argument("--nights", nargs="+", choices=EVENTS, default=NIGHTS)
     args = parser.parse_args()
-    make_base(args.work / f"base-{args.debian}", args.debian)
-    name = f"d{args.debian}-{args.mailer}"
+    release = RELEASES[args.release]
+    base = args.work / f"base-{args.release}"
+    make_base(base, release)
+    name = f"{release.suite}-{args.mailer}"
     machine = Machine(args.work / name, name)
-    nights = Nights(machine, args.work / "results" / name, args.intruder, args.stock)
-    machine.make(args.work / f"base-{args.debian}", args.mailer)
+    results = args.work / "results" / name
+    nights = Nights(machine, release, results, args.intruder, args.stock)
+    machine.make(base, args.mailer)
     try:
-        nights.prepare(args.package, args.debian)
+        nights.prepare(args.package)
         machine.boot()
         nights.set_up()
         for number, event in enumerate(args.nights):
