@@ -25,6 +25,7 @@ import signal
 import subprocess
 import sys
 import tempfile
+import threading
 from collections.abc import Collection, Iterable, Sequence
 from typing import NamedTuple
 
@@ -81,32 +82,47 @@ def goals_in(words: str, name: str) -> Goals:
 
 
 class Crate:
-    """A crate with a kept proof, over which copies of it are checked."""
+    """A crate with a kept proof, over which copies of it are checked: as many at a time, of all
+    crates, as there are lanes."""
 
-    def __init__(self, name: str, kept: str) -> None:
+    def __init__(self, name: str, kept: str, lanes: threading.Semaphore) -> None:
         self.name = name
         self.kept = kept
+        self.lanes = lanes
         self.folder = os.path.join(TOP, "crates", name)
 
+    def prove(self) -> Judged:
+        """Checks the crate as it is, and keeps its proof."""
+        proved = os.path.join(self.folder, "out", "incremental")
+        with self.lanes, tempfile.TemporaryDirectory(prefix="judge-") as room:
+            if os.path.isdir(proved):
+                shutil.copytree(proved, self.kept, dirs_exist_ok=True)
+            self._copy(room)
+            return self._run(room, self.kept)
+
     def check(self, texts: dict[str, str], without: Collection[str] = ()) -> Judged:
-        """Checks a copy with these texts in place of its own, and without these files."""
-        with tempfile.TemporaryDirectory(prefix="judge-") as room:
-            for part in PARTS:
-                if os.path.isdir(os.path.join(self.folder, part)):
-                    shutil.copytree(os.path.join(self.folder, part), os.path.join(room, part))
+        """Checks a copy with these texts in place of its own, and without these files. The check
+        gets a copy of the kept proof too, since it adds to it."""
+        with self.lanes, tempfile.TemporaryDirectory(prefix="judge-") as room:
+            self._copy(room)
             for path, text in texts.items():
                 with open(os.path.join(room, path), "w", encoding="utf-8") as file:
                     file.write(text)
             for path in without:
                 if os.path.exists(os.path.join(room, path)):
                     os.remove(os.path.join(room, path))
-            return self._run(room)
+            return self._run(room, shutil.copytree(self.kept, os.path.join(room, "kept")))
 
-    def _run(self, room: str) -> Judged:
+    def _copy(self, room: str) -> None:
+        for part in PARTS:
+            if os.path.isdir(os.path.join(self.folder, part)):
+                shutil.copytree(os.path.join(self.folder, part), os.path.join(room, part))
+
+    def _run(self, room: str, kept: str) -> Judged:
         root = "main" if os.path.exists(os.path.join(room, "src/main.rt")) else "lib"
         words = [os.path.join(kit(), "bin", "rattle"), "check", "--crate-name", self.name]
         words += [f"src/{root}.rt", *words_over(self.name, libraries(), kit()), "--jobs", "1"]
-        words += ["--incremental", self.kept, "--allow-holes"]
+        words += ["--incremental", kept, "--allow-holes"]
         with subprocess.Popen(
             words,
             cwd=room,
@@ -181,12 +197,18 @@ class Verdict(NamedTuple):
 class Judge:
     """Judges the edits of one crate, over a kept proof of it."""
 
-    def __init__(self, crate: Crate, right: Judged) -> None:
+    def __init__(self, crate: Crate, right: Judged, answers: Answers) -> None:
         self.crate = crate
         self.right = right
-        self.verdicts: list[Verdict] = []
+        self.answers = answers
 
-    def group(self, group: Group, answers: Answers) -> None:
+    def groups(self, groups: Sequence[Group]) -> list[Verdict]:
+        """Judges groups side by side."""
+        count = max(1, len(groups))
+        judged = side_by_side(count, lambda group: self.group(group, self.answers), groups)
+        return [each for verdicts in judged for each in verdicts]
+
+    def group(self, group: Group, answers: Answers) -> list[Verdict]:
         """Judges the edits of a group in one check. If that check says nothing, each edit gets one
         of its own, so that the one at fault is named. Edits that seem not to be refused are tried
         without the stored answers too: an answer may name what the edit takes away."""
@@ -198,21 +220,19 @@ class Judge:
             bare = self.crate.check({}, without)
         judged = self.crate.check(group.sources.texts, without)
         if not judged.is_whole and len(group.edits) > 1:
-            for each in group.edits:
-                self.group(self._alone([each]), answers)
-            return
-        again = []
+            alone = [self._alone([each]) for each in group.edits]
+            return [each for one in alone for each in self.group(one, answers)]
+        verdicts, again = [], []
         for edit, functions in group.edits:
             try:
                 way = verdict(judged, functions, names[edit], bare)
-                self.verdicts.append(Verdict(str(edit), way, ""))
+                verdicts.append(Verdict(str(edit), way, ""))
             except BadEdit as error:
                 if answers is Answers.KEPT and functions and judged.is_whole:
                     again.append((edit, functions))
                 else:
-                    self.verdicts.append(Verdict(str(edit), "", str(error)))
-        if again:
-            self.group(self._alone(again), Answers.REMOVED)
+                    verdicts.append(Verdict(str(edit), "", str(error)))
+        return verdicts + (self.group(self._alone(again), Answers.REMOVED) if again else [])
 
     def _alone(self, edits: Iterable[tuple[Edit, frozenset[Function]]]) -> Group:
         """Some edits of a group in one of their own."""
@@ -234,7 +254,7 @@ def verdict(
     return refusal(judged, names, bare) if functions else refusal_of_definition(judged)
 
 
-def judge_crate(name: str, answers: Answers) -> list[Verdict]:
+def judge_crate(name: str, answers: Answers, lanes: threading.Semaphore) -> list[Verdict]:
     """Judges all edits of a crate."""
     folder = os.path.join(TOP, "crates", name)
     fitting: list[tuple[Edit, frozenset[Function]]] = []
@@ -247,19 +267,13 @@ def judge_crate(name: str, answers: Answers) -> list[Verdict]:
             label = f"{name}/{os.path.basename(path)[: -len('.edit')]}"
             unfit.append(Verdict(label, "", f"BAD EDIT: {error}"))
     with tempfile.TemporaryDirectory(prefix="judge-kept-") as kept:
-        proved = os.path.join(folder, "out", "incremental")
-        if os.path.isdir(proved):
-            shutil.copytree(proved, kept, dirs_exist_ok=True)
-        crate = Crate(name, kept)
-        right = crate.check({})
+        crate = Crate(name, kept, lanes)
+        right = crate.prove()
         if not right.is_proved:
             print(right.text[-2000:], flush=True)
             fault = "its crate is not proved as it is"
             return [*unfit, *(Verdict(str(edit), "", fault) for edit, _ in fitting)]
-        judge = Judge(crate, right)
-        for group in groups_of(folder, fitting):
-            judge.group(group, answers)
-    return [*unfit, *judge.verdicts]
+        return [*unfit, *Judge(crate, right, answers).groups(groups_of(folder, fitting))]
 
 
 def in_turn(first: Sequence[str] = ()) -> list[str]:
@@ -272,8 +286,9 @@ def in_turn(first: Sequence[str] = ()) -> list[str]:
 def judge_all(
     tally: Tally, jobs: int, names: Sequence[str], answers: Answers = Answers.KEPT
 ) -> None:
-    """Judges the edits of crates, so many crates at a time."""
-    for verdicts in side_by_side(jobs, lambda name: judge_crate(name, answers), names):
+    """Judges the edits of crates by so many checks at a time."""
+    lanes = threading.Semaphore(jobs)
+    for verdicts in side_by_side(jobs, lambda name: judge_crate(name, answers, lanes), names):
         for label, way, fault in sorted(verdicts):
             if way:
                 print(f"{label}: {way}", flush=True)
@@ -289,7 +304,7 @@ def main() -> int:
         action="store_true",
         help="without the stored answers of the planted functions",
     )
-    parser.add_argument("--jobs", type=int, default=1, metavar="N", help="crates at a time (1)")
+    parser.add_argument("--jobs", type=int, default=1, metavar="N", help="checks at a time (1)")
     args = parser.parse_args()
     answers = Answers.REMOVED if args.without_answers else Answers.KEPT
     tally = Tally()
