@@ -186,7 +186,7 @@ class Judge(unittest.TestCase):
             )
         tally = Tally()
         with contextlib.redirect_stdout(io.StringIO()) as printed:
-            judge.judge_all(tally, 1, judge.in_turn())
+            judge.judge_all(tally, 2, judge.in_turn())
         return tally, printed.getvalue()
 
     def stumble(self, later: str) -> None:
