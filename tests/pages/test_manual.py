@@ -23,7 +23,7 @@ from tests.oracle.database import BYTE_LIMIT, COLUMN_LIMIT, LINE_LIMIT
 from tests.oracle.patterns import MOST_RULES
 from tests.oracle.session import CONFIGURATION_LIMIT, CONFIGURATION_WORDS, DATABASE_WORDS
 from tests.oracle.session import LIST_WORDS
-from tests.pages.blocks import MANUALS
+from tests.pages.blocks import MANUALS, blocks_of
 from tests.pages.cases_beside_aide import database
 
 PAGE, CONF_PAGE = read("man/aide-compare-program.8"), read("man/aide-compare.conf.5")
@@ -60,7 +60,7 @@ LIMITS = {
     "variable or database path, bytes": configuration.VALUE_LIMIT,
     "name of a variable or group, bytes": NAME_LIMIT,
     "list, lines that name paths": MOST_RULES,
-    "list, bytes, by the limit of Linux for an argument": (128 << 10) - 1,
+    "list, bytes (an argument of Linux)": (128 << 10) - 1,
 }
 
 
@@ -88,6 +88,11 @@ def line_after(text: str, begin: str) -> str:
     found = re.search(rf"^{begin}.*\n\.\w\w (.*)$", text, re.M)
     assert found, begin
     return found[1]
+
+
+def sentence_after(text: str, begin: str) -> str:
+    """The rest of the sentence that begins so."""
+    return text.partition(begin)[2].partition(".\n")[0]
 
 
 def section(page: str, title: str, macro: str = "Sh") -> str:
@@ -180,11 +185,11 @@ class NamesTest(unittest.TestCase):
             self.assertIn(fault_of(line.replace("{ name }", "{name}")), blocks, line)
 
     def test_attributes(self) -> None:
-        form = r"^\.It Li (\S+) Ta (\S+) Ta (\S+) Ta (\S+) Ta (\S+)$"
+        form = r"^\.It (\S+)\t(\S+)\t(\S+)\t(\S+)\t(\S+)$"
         table = between("attributes", "attributes")
-        before, after = [re.findall(form, part, re.M) for part in table.split("\n.It Em digests ")]
-        digests = re.findall(r"\w+", line_after(table, "The digests are"))
-        odd = re.findall(r"[^ ,.]+", line_after(table, "The details call the last three"))
+        before, after = [re.findall(form, part, re.M) for part in table.split("\n.It Em digests\t")]
+        digests = re.findall(r"\w+", sentence_after(table, "The digests are, in this order,"))
+        odd = re.findall(r"[^ ,\n]+", sentence_after(table, "The details call the last three"))
         details = [name.upper() for name in digests[:-3]] + odd
         shared = [(name, name, "-", "H", detail) for name, detail in zip(digests, details)]
         rows = [*before, *shared, *after]
@@ -195,14 +200,14 @@ class NamesTest(unittest.TestCase):
         self.assertEqual(rows, wanted)
 
     def test_groups(self) -> None:
-        groups = re.findall(r"^\.It Li (\S+) Ta (.*)$", between("groups", "groups"), re.M)
+        groups = re.findall(r"^\.It (\S+) Ta (.*)$", between("groups", "groups"), re.M)
         named = {"the empty set": GROUPS["E"], "all digests": GROUPS["H"]}
         sets: dict[str, frozenset[str]] = {}
         for name, text in groups:
             parts = [sets.get(part, frozenset([part])) for part in text.split("+")]
             sets[name] = named.get(text, frozenset().union(*parts))
         self.assertEqual(sets, GROUPS)
-        empty = re.findall(r"\b(?!Li\b)\w+\b", between("empty names", "empty names"))
+        empty = re.findall(r"\w+", between("empty names", "empty names"))
         self.assertEqual(sorted(empty), sorted(EMPTY_NAMES))
 
     def test_faults(self) -> None:
@@ -216,7 +221,7 @@ class NamesTest(unittest.TestCase):
         self.assertEqual(sorted(named), sorted([*wanted, "read failed"]))
 
     def test_limits(self) -> None:
-        rows = re.findall(r"^\.It (.*) Ta ([\d,]+)$", section(PAGE, "LIMITS"), re.M)
+        rows = re.findall(r"^\.It (.*)\t([\d,]+)$", section(PAGE, "LIMITS"), re.M)
         self.assertEqual({name: int(number.replace(",", "")) for name, number in rows}, LIMITS)
         for more, fault in ((0, None), (1, "BadName")):
             self.assertEqual(fault_of("@@define " + "A" * (NAME_LIMIT + more)), fault)
@@ -238,8 +243,9 @@ class ShownTest(ScratchTest, ProgramTest):
         return self.write("old.db", PAIR[0]), self.write("new.db", PAIR[1])
 
     def test_reports(self) -> None:
-        """The report in the page is that which the program writes, level for level."""
-        parts = dict(re.findall(r'^\.\\" try: (\w+)\n\.Bd -literal\n(.*?)\.Ed$', PAGE, re.M | re.S))
+        """The report and the lines that pages show are what the programs write, level for level."""
+        blocks = [*blocks_of("examples/README.md"), *blocks_of("man/aide-compare-program.8")]
+        parts = {name: block.text for block in blocks for name in block.values("try:")}
         named = re.findall(r"^\.It Cm (\w+)$", section(PAGE, "READING THE REPORT"), re.M)
         self.assertEqual((named, list(parts)), (LEVELS, [LEVELS[-1], "lines"]), "levels")
         pair = self.put_pair()
@@ -258,7 +264,7 @@ class ShownTest(ScratchTest, ProgramTest):
         """The configurations of the page have no fault."""
         form = r"^\.Bd -literal -offset indent\n(database_in=.*?)^\.Ed$"
         examples = re.findall(form, CONF_PAGE, re.M | re.S)
-        self.assertEqual(len(examples), 3, "examples of the page")
+        self.assertEqual(len(examples), 1, "examples of the page")
         for text in examples:
             words = ["-D", "-c", self.write("conf", text)]
             self.assertEqual(run(self.program, words), Answer(b"", b"", 0), text)
