@@ -30,12 +30,18 @@ SILENT = ("aide_line_laws", "OverMaps", "IsAccount")
 # What decides is printed of these crates, and of others only these names.
 DECIDES = ("aide_line_laws", "aide_agreement")
 ALSO = [("aide_entry", "Attributes", name) for name in ("Attributes", "type_in")]
+# What these mean, their names and the examples of their users show.
+SHOWN = [
+    ("aide_agreement", "Own", name)
+    for name in ("directory_attrs", "is_digest", "least_bytes", "link_attrs", "own_attrs")
+]
 
 
 def silent(definitions: Definitions) -> tuple[Places, Places]:
     """The definitions that decide what is silent, and the others that these use."""
     order, _ = definitions.reached([SILENT])
     stops = [place for place in order if place[0] not in DECIDES and place not in ALSO]
+    stops += SHOWN
     return definitions.reached([SILENT], stops)[0], stops
 
 
