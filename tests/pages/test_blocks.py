@@ -45,12 +45,12 @@ EMPTY = HEAD + "@@end_db\n"
 # The words of a row of the table of statuses: old and new database, and the command.
 STATUSES = [
     ("no difference", OLD, OLD, COMPARE),
-    ("(`-D`) a configuration without a fault", OLD, NEW, "aide-compare -D -c compare.conf"),
+    ("(`-D`) a configuration without an error", OLD, NEW, "aide-compare -D -c compare.conf"),
     ("added (%d)", EMPTY, ADDED, COMPARE),
     ("removed (%d)", ADDED, EMPTY, COMPARE),
     ("changed (%d)", ADDED, ADDED.replace(" 5 ", " 6 "), COMPARE),
     ("the command line is not understood", OLD, NEW, "aide-compare --no-such-option"),
-    ("the configuration has a fault", OLD, NEW, COMPARE + " -A report_level=no_such_level"),
+    ("the configuration or the list has an error", OLD, NEW, COMPARE + " -A report_level=no_such_level"),
     ("a file could not be opened", OLD, NEW, COMPARE + " -A database_new=file:/no/such/file"),
     (
         "a database changed while a report was made of it",
@@ -59,7 +59,7 @@ STATUSES = [
         f"zcat -f new.gz | {COMPARE} -A database_new=file:/dev/stdin",
     ),
     ("of the programs is not UTF-8", OLD, NEW, COMPARE + " -A \"$(printf 'report_url=\\377')\""),
-    ("a database has a fault", OLD, "no database\n", COMPARE),
+    ("a database has an error", OLD, "no database\n", COMPARE),
 ]
 
 
