@@ -60,10 +60,12 @@ def _bytes_of_letter(letter: str) -> bytes:
 
 def shown(text: str | bytes, limit: int = 5000) -> str:
     """Bytes or text of others in one line, cut after so many characters with "..."."""
+    if not isinstance(text, str):
+        text = text[: 4 * limit + 4].decode("utf-8", "surrogateescape")
+    if len(text) <= limit and _is_plain(text) and "\\" not in text:
+        return text
     letters = _bytes_of(text[: 4 * limit + 4]).decode("utf-8", "surrogateescape")
-    line = letters[:limit]
-    if "\\" in line or not _is_plain(line):
-        line = _with_escapes(line)
+    line = _with_escapes(letters[:limit])
     if len(letters) > limit:
         line += "..."
     return line

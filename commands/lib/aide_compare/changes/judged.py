@@ -30,6 +30,7 @@ COUNTS = "select standing, level, kind, sum(size) from numbers group by 1, 2, 3"
 TITLES = ("Unsigned packages", "New packages", "Removed packages")
 MAX_MEMBERS = 1000
 STANDINGS = list(Standing)
+SILENT = (Standing.SAME, Standing.TRUSTED, Standing.LEFT_OUT)
 # So many changes are parsed once and no more, unless their lines are long.
 MAX_KEPT = 100
 MAX_LINE = 1 << 11
@@ -49,7 +50,7 @@ class Judged:
         self.begin = self.file.tell()  # Of the first change.
         self.named: dict[str, list[str]] = {}
         self.by = ""
-        self.silent: Counter[str] = Counter()
+        self.silent_beyond: Counter[str] = Counter()  # Of which no line was kept.
         # How many changes the lines of the list leave out, by their numbers.
         self.left_out: Counter[int] = Counter()
         # Directories with another number of links, and a directory in each that is left out.
@@ -68,7 +69,7 @@ class Judged:
         open_ones = 0
         for (kind, account, left_out), count in others.items():
             if account:
-                self.silent[Standing(account).key] += count
+                self.silent_beyond[Standing(account).key] += count
                 self.left_out += Counter({left_out: count} if left_out else {})
             else:
                 self.table.count(kind, OTHERS, 0, count)
@@ -94,7 +95,6 @@ class Judged:
             silent = change.silent
             self._standings.append(STANDINGS.index(silent or Standing.OPEN))
             if silent:
-                self.silent[silent.key] += 1
                 if change.left_out:
                     self.left_out[change.left_out] += 1
                     self._note_member(change)
@@ -104,7 +104,7 @@ class Judged:
                     self._kept[place] = change
                 directory, _, name = change.path.rpartition(b"/")
                 weight = weights.of(change)
-                key = key_of_path(change.path)
+                key = change.key
                 # Most changes are in the directory of the one before. The root is in none.
                 if weight is not last or directory != above or not directory:
                     last = weight
@@ -130,7 +130,9 @@ class Judged:
     @cached_property
     def counts(self) -> Counts:
         """The counts of all. They are recordable for when the changes are grouped."""
-        numbers = self.silent.copy()
+        numbers = Counter(self.silent_beyond)
+        for silent in SILENT:
+            numbers[silent.key] += self._standings.count(STANDINGS.index(silent))
         kinds = set()
         for standing, level, kind, size in self.table.ask(COUNTS):
             numbers[standing] += size

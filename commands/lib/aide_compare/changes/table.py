@@ -57,10 +57,8 @@ class Marks(NamedTuple):
     @lru_cache(maxsize=1024)
     def members(self) -> bytes:
         """What is known of them, as the end of an object that has other members before."""
-        return embedded(self.known()).replace(b"{", b",", 1)
-
-    def known(self) -> dict[str, str]:
-        return {name: value for name, value in self._asdict().items() if value}
+        known = {name: value for name, value in self._asdict().items() if value}
+        return embedded(known).replace(b"{", b",", 1)
 
 
 class Table(Rows):

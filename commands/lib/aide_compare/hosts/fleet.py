@@ -8,9 +8,8 @@ from __future__ import annotations
 
 import hashlib
 import json
-from collections.abc import Iterable, Iterator, Sequence
+from collections.abc import Iterator, Sequence
 
-from aide_compare.base.paths import key_of_path
 from aide_compare.base.rows import Rows
 from aide_compare.base.words import SEVERITIES, SIDES
 from aide_compare.changes.severity import RANKS, Severity
@@ -20,7 +19,7 @@ from aide_compare.hosts.report_values import SharedChange
 from aide_compare.lines.attributes import FORMS
 from aide_compare.lines.change import ChangeLine, Fields
 from aide_compare.lines.reader import HEX
-from aide_compare.lines.rights import differing
+from aide_compare.lines.rights import differing, without
 from aide_compare.show.digest import MAIL, Questions
 
 OWN = frozenset(["Bcount", "Atime", "Mtime", "Ctime", "Inode", "Linkcount"])
@@ -91,11 +90,6 @@ def digest_of(*values: object) -> bytes:
     return hashlib.sha256(repr(values).encode()).digest()[:16]
 
 
-def without(side: Fields, labels: Iterable[str]) -> Fields:
-    """A side without the values of some attributes. These are numbers, so none is in base 16."""
-    return {label: value for label, value in side.items() if label not in labels}
-
-
 class Fleet:
     """Takes the changes of all hosts, one host after the other, and finds those that are the
     same."""
@@ -123,7 +117,7 @@ class Fleet:
         what = (change.path, change.kind, word, rank // RANKS, known.owners)
         row = (
             host,
-            key_of_path(change.path),
+            change.key,
             directory,
             digest_of(what, sorted(labels - own), without(new, own)),
             change.kind,

@@ -21,7 +21,7 @@ from aide_compare.hosts.report_values import SharedChange
 from aide_compare.lines.change import Fields
 from aide_compare.lines.reader import embedded
 from aide_compare.show.digest import digest
-from aide_compare.show.page import BESIDE, MAX_PAGE, row_of
+from aide_compare.show.page import BESIDE, MAX_PAGE, both_values, head_of
 from aide_compare.show.page import size_beside, whole_page
 
 MAX_LIST = 1500000  # Of each list of hosts.
@@ -74,7 +74,9 @@ def shared_row(shared: SharedChange, hosts: int) -> bytes:
         "old_various": shared.various,
         "per_host": shared.per_host,
     }
-    return embedded(row_of(shared.change, {name: mark for name, mark in marks.items() if mark}))
+    known = {name: mark for name, mark in marks.items() if mark}
+    head = head_of(shared.change, embedded(known).replace(b"{", b",", 1))
+    return b"[%b,%b]" % (head, embedded(both_values(shared.change)))
 
 
 def hosts_page(report: Report, limit: int = 0) -> Iterator[bytes]:

@@ -7,16 +7,18 @@ from __future__ import annotations
 
 import json
 import re
+from collections.abc import Container
 from enum import Enum
 from typing import Any, NamedTuple, Union
 
+from aide_compare.base.paths import key_of_path
 from aide_compare.base.words import KINDS, SEVERITIES, SIDES, counted
 from aide_compare.lines.attributes import NUMBERS
-from aide_compare.lines.rights import bytes_of, differing
+from aide_compare.lines.rights import bytes_of, same_rights
 
 Value = Union[int, str, bytes, None]
 VALUE_TYPES = frozenset((int, str, type(None)))  # As a line has them.
-DECODE = json.JSONDecoder().decode
+DECODE = json.JSONDecoder().raw_decode
 # What a member of another type, or one that is missing, raises.
 ODD = (ValueError, KeyError, TypeError, AttributeError)
 # The exact values of one side by the labels of attributes.
@@ -55,16 +57,18 @@ WATCHERS = (
 )
 
 
-def values_of(fields: Fields, side: str) -> Values:
-    """The exact values of a side: numbers, texts, and bytes where these are not UTF-8; a
-    ValueError, TypeError or AttributeError if there is any other."""
+def values_of(side: Fields, hidden: Container[str] = ()) -> Values:
+    """The exact values of a side but the hidden ones: numbers, texts, and bytes where these are not
+    UTF-8; a ValueError, TypeError or AttributeError if there is any other."""
     values: Values = {}
-    for name, value in fields.get(side, {}).items():
+    for name, value in side.items():
+        if name in hidden:
+            continue
         if type(value) not in VALUE_TYPES:
             raise ValueError("a value is a number or a text")
         if name.endswith("_hex"):
             values[name[: -len("_hex")]] = bytes.fromhex(value)
-        elif isinstance(value, str) and name in NUMBERS:  # A number of more than 53 bits.
+        elif name in NUMBERS and isinstance(value, str):  # A number of more than 53 bits.
             values[name] = int(value)
         else:
             values[name] = value
@@ -90,9 +94,10 @@ class Change(NamedTuple):
 def left_out_by(fields: Fields) -> int:
     """The number of the list's line that leaves a change out, 0 if none does; a ValueError for what
     is no number, or beside another account."""
-    line = fields.get(LEFT_OUT, 0)
-    is_number = type(line) is int and line > 0
-    if LEFT_OUT in fields and ("same_as" in fields or not is_number):
+    if LEFT_OUT not in fields:
+        return 0
+    line = fields[LEFT_OUT]
+    if "same_as" in fields or type(line) is not int or line <= 0:
         raise ValueError("another number of a line")
     return int(line)
 
@@ -102,13 +107,11 @@ class ChangeLine(NamedTuple):
 
     fields: Fields
     path: bytes
+    key: bytes  # Of its path.
+    kind: str
     account: Standing | None  # What accounts for the change; None if nothing does.
     left_out: int  # The number of the list's line that leaves it out, or 0.
     line: bytes
-
-    @property
-    def kind(self) -> str:
-        return str(self.fields["kind"])
 
     @property
     def counted(self) -> tuple[str, str]:
@@ -126,18 +129,24 @@ class ChangeLine(NamedTuple):
 def change_line(fields: Fields, line: bytes) -> ChangeLine:
     """The line of a change with its object; one of ODD if that says no change."""
     path = bytes_of(fields, "path")
-    is_change = fields["kind"] in KINDS and path.startswith(b"/")
+    kind = fields["kind"]
+    is_change = kind in KINDS and path.startswith(b"/")
     if not (is_change and isinstance(fields.get("summary", ""), str)):
         raise ValueError("no change")
     for side in SIDES:
-        if not VALUE_TYPES.issuperset(map(type, fields.get(side, {}).values())):
+        if side in fields and not VALUE_TYPES.issuperset(map(type, fields[side].values())):
             raise ValueError("a value is a number or a text")
-    return ChangeLine(fields, path, account_of(fields), left_out_by(fields), line)
+    account = account_of(fields)
+    return ChangeLine(fields, path, key_of_path(path), kind, account, left_out_by(fields), line)
 
 
 def parsed(line: bytes) -> Any:
     """What a line of JSON says; a ValueError or a RecursionError if it is none."""
-    return DECODE(line.decode())
+    text = line.decode()
+    value, end = DECODE(text)
+    if text[end:].strip():
+        raise ValueError("more follows the value")
+    return value
 
 
 def account_of(fields: Fields) -> Standing | None:
@@ -161,7 +170,7 @@ def change_of(fields: Fields) -> Change:
     """The change that the object of a line says; a ValueError, KeyError, TypeError or
     AttributeError if it says none."""
     letters = _text_of(fields, "summary", "")
-    fields = differing(fields)
+    hidden = same_rights(fields)
     path = bytes_of(fields, "path")
     if fields["kind"] not in KINDS or not path.startswith(b"/"):
         raise ValueError("no change")
@@ -170,8 +179,8 @@ def change_of(fields: Fields) -> Change:
         kind=fields["kind"],
         type=_text_of(fields, "type", "Entry"),
         letters=letters,
-        old=values_of(fields, "old"),
-        new=values_of(fields, "new"),
+        old=values_of(fields.get("old", {}), hidden),
+        new=values_of(fields.get("new", {}), hidden),
     )
 
 

@@ -61,6 +61,9 @@ class SideTexts(NamedTuple):
     new: Texts
 
 
+NO_TEXTS = SideTexts({}, {})
+
+
 def exact_bytes(value: str | bytes) -> bytes:
     """The bytes of a value; of a text its UTF-8."""
     if isinstance(value, str):
@@ -220,14 +223,19 @@ def kinds_of(change: Change) -> Sequence[str | None]:
 
 def _side_texts(values: Values, kind: str | None) -> dict[str, str]:
     """The texts of a side by their labels."""
-    labels = DECODED & values.keys()
-    texts = {label: decoded(label, values[label], kind) for label in labels}
-    return {label: text for label, text in texts.items() if text is not None}
+    texts = {}
+    for label in DECODED & values.keys():
+        text = decoded(label, values[label], kind)
+        if text is not None:
+            texts[label] = text
+    return texts
 
 
 def texts_of(change: Change) -> SideTexts:
     """The texts of the values of both sides. If two values have one text, which would hide the
     change, neither has it."""
+    if DECODED.isdisjoint(change.old) and DECODED.isdisjoint(change.new):
+        return NO_TEXTS
     old, new = (_side_texts(*side) for side in zip(change.sides, kinds_of(change)))
     for label in list(old):
         if old[label] == new.get(label) and change.old[label] != change.new[label]:

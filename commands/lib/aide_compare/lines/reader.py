@@ -12,7 +12,6 @@ from typing import Any, BinaryIO, NamedTuple
 
 from aide_compare.base.ending import DeviceFault
 from aide_compare.base.files import BLOCK
-from aide_compare.base.paths import key_of_path
 from aide_compare.base.words import KINDS, SIDES, TRUSTED_SIDES, status_of_counts
 from aide_compare.lines.change import LEFT_OUT, ODD, ChangeLine, Fields, Standing
 from aide_compare.lines.change import change_line, parsed
@@ -118,10 +117,9 @@ class Reader:
                 change = change_line(fields, line)
             except ODD:
                 raise Refused(self.number, "this is no change") from None
-            key = key_of_path(change.path)
-            if key <= last:
+            if change.key <= last:
                 raise Refused(self.number, "the entry is not in the order of paths")
-            last = key
+            last = change.key
             self._lines[change.counted] += 1
             yield change
         raise Refused(self.number, "this ends too early: the last line is missing")

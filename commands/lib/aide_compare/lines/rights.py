@@ -8,12 +8,14 @@ from __future__ import annotations
 
 import base64
 import re
+from collections.abc import Container
 from contextlib import suppress
 from functools import lru_cache
 from typing import Any, NamedTuple, Optional
 
 from aide_compare.base.directories import OTHERS_WRITE
 from aide_compare.base.paths import unescaped
+from aide_compare.base.words import SIDES
 
 # The attributes by their names in a configuration, and those that have a place of their own in the
 # summary string by their names in a line.
@@ -191,25 +193,35 @@ def rights_of(fields: Object) -> Sides:
 
 
 @lru_cache(maxsize=256)
-def not_differing(letters: str) -> set[str]:
+def _same_by(letters: str) -> frozenset[str]:
     """The members of a side whose rights did not differ, by the summary string."""
-    names = (name for name, place in PLACES.items() if letters[place] in NO_DIFFERENCE)
-    return {name + end for name in names for end in ("", "_hex")}
+    names = [name for name, place in PLACES.items() if letters[place] in NO_DIFFERENCE]
+    if not letters.startswith(OTHER_TYPE):
+        names.append("Type")
+    return frozenset(name + end for name in names for end in ("", "_hex"))
+
+
+def same_rights(fields: Object) -> frozenset[str]:
+    """The members of both sides in the object of a line whose rights did not differ."""
+    letters = fields.get("summary", "")
+    if fields.get("kind") != "changed" or len(letters) <= PLACES["Caps"]:
+        return frozenset()
+    same = _same_by(letters)
+    if "Type" in fields.get("old", ()) and "Type" in fields.get("new", ()):
+        return same
+    return same - {"Type"}
 
 
 def differing(fields: Object) -> Object:
     """The object of a line without the rights that did not differ."""
-    letters = fields.get("summary", "")
-    if fields.get("kind") != "changed" or len(letters) <= PLACES["Caps"]:
-        return fields
-    old = dict(fields.get("old", {}))
-    new = dict(fields.get("new", {}))
-    if not letters.startswith(OTHER_TYPE) and "Type" in old and "Type" in new:
-        del old["Type"], new["Type"]
-    for side in (old, new):
-        for name in side.keys() & not_differing(letters):
-            del side[name]
-    return {**fields, "old": old, "new": new}
+    same = same_rights(fields)
+    sides = {side: without(fields[side], same) for side in SIDES if side in fields}
+    return {**fields, **sides}
+
+
+def without(values: Object, names: Container[str]) -> Object:
+    """The members of a side that have other names."""
+    return {name: value for name, value in values.items() if name not in names}
 
 
 def owner_of_change(old: Side, new: Side) -> int | None:

@@ -8,6 +8,7 @@ import hashlib
 import json
 import os
 from collections.abc import Callable, Iterable, Iterator
+from functools import lru_cache
 from html import escape
 from itertools import chain
 from typing import TYPE_CHECKING
@@ -115,27 +116,25 @@ def size_beside(title: str, digest: str, heading: Callable[[], Fields]) -> int:
 
 def shown_value(value: Value) -> int | str:
     """A value as it is, for people."""
-    if value is None:
-        return "none"
     if isinstance(value, int):
         return value if abs(value) < MAX_NUMBER else str(value)
+    if value is None:
+        return "none"
     return shown(value, MAX_VALUE)
 
 
 def values_of(values: Values, texts: Texts) -> Fields:
     """The values of a side. One that has a text for people has it with it."""
-    fields: Fields = {}
-    for label, value in values.items():
-        fields[label] = shown_value(value)
-        if label in texts:
-            fields[label] = [fields[label], texts[label]]
+    fields: Fields = {label: shown_value(value) for label, value in values.items()}
+    for label, text in texts.items():
+        fields[label] = [fields[label], text]
     return fields
 
 
-def labels_of(*sides: Iterable[str]) -> str:
-    """The attributes that people read of a change."""
-    names = set().union(*sides)
-    return " ".join(label for label in FORMS if label in names)
+@lru_cache(maxsize=256)
+def labels_of(*names: str) -> bytes:
+    """The attributes that people read of a change as JSON, by those of both of its sides."""
+    return embedded(" ".join(label for label in FORMS if label in names))
 
 
 def both_values(change: Change) -> Fields:
@@ -144,15 +143,11 @@ def both_values(change: Change) -> Fields:
     return {"old": values_of(change.old, texts.old), "new": values_of(change.new, texts.new)}
 
 
-def head_of(change: Change, marks: Fields) -> Fields:
-    """What the row of a change always has, with some marks."""
-    labels = labels_of(change.old, change.new)
-    return {"kind": change.kind, "path": shown(change.path), "labels": labels, **marks}
-
-
-def row_of(change: Change, marks: Fields) -> list[Fields]:
-    """The row of a change: what is always there with some marks, and its values."""
-    return [head_of(change, marks), both_values(change)]
+def head_of(change: Change, marks: bytes) -> bytes:
+    """What the row of a change always has, with some marks as the end of an object."""
+    path = embedded(shown(change.path))
+    labels = labels_of(*change.old, *change.new)
+    return b'{"kind":"%b","path":%b,"labels":%b%b' % (change.kind.encode(), path, labels, marks)
 
 
 class PageRows:
@@ -170,19 +165,23 @@ class PageRows:
 
     def add(self, fields: Fields, marks: Marks) -> None:
         change = change_of(fields)
-        head = embedded(head_of(change, marks.known()))
+        head = head_of(change, marks.members())
         self.size += len(head) + BESIDE
         self.count += 1
         values = b""
-        if self.values_size <= self.limit:  # Otherwise no values have room any more.
+        if self.values_size <= self.for_values(self.limit):
             values = embedded(both_values(change))
             self.values_size += len(values)
         self.file.write(head + b"\n" + values + b"\n")
 
+    def for_values(self, room: int) -> int:
+        """What the heads leave to values, never less than an eighth. It shrinks with each head."""
+        return max(room - self.size, room // 8)
+
     def chosen(self, room: int) -> Iterator[bytes]:
         """Yields the rows for which there is room: of all changes the heads, if these take no more
         than seven eighths of it, and of the first ones the values."""
-        for_values = max(room - self.size, room // 8)
+        for_values = self.for_values(room)
         for_heads = room - for_values
         self.file.seek(0)
         for head_line, values_line in zip(self.file, self.file):
