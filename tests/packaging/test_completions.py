@@ -6,25 +6,16 @@ import re
 
 from tests.commands.units.calls import helped
 from tests.lib.program_test import slow
-from tests.lib.scratch import read
-from tests.oracle.configuration import BOOL_OPTIONS, LEVELS, SET_OPTIONS
 from tests.packaging.installation import InstallTest, texts, tree
 
 BASH = "share/bash-completion/completions/aide-compare"
 ZSH = "share/zsh/site-functions/_aide-compare"
 FISH = "share/fish/vendor_completions.d/aide-compare.fish"
-REPORT_OPTIONS = ["report_level"] + BOOL_OPTIONS + SET_OPTIONS
 SUBCOMMANDS = "compare show json page mail accept archive status sort setup version".split()
 HOSTS = ["hosts " + word for word in ("add", "list", "remove", "compare", "accept", "report")]
 
 # What bash offers for the last word of a line.
 COMPLETED: dict[str, list[str]] = {
-    "-E -A report_": [name + "=" for name in REPORT_OPTIONS],
-    "-E -A report_level =": LEVELS,
-    "-E -A report_level = su": ["summary"],
-    "-E -A report_l": ["report_level="],
-    "-E --after = report_l": ["report_level="],
-    "-D -B report_quiet = y": ["yes"],
     "hosts ": [words[6:] for words in HOSTS],
     "status --format ": ["json", "nagios", "prometheus", "text"],
     "-c VERS": ["VERSION"],
@@ -32,7 +23,8 @@ COMPLETED: dict[str, list[str]] = {
     "--exclude-from VERS": ["VERSION"],
     "--exclude VERS": [],
     "hosts report --store VERS": [],
-    "mail -A report_l": ["report_level="],
+    "mail -A VERS": [],
+    "mail --weekly = M": ["Mon"],
     "sort VERS": ["VERSION"],
     "hosts report --format j": ["json"],
     "hosts report --store pack": ["packaging"],
@@ -81,13 +73,6 @@ def options(words: str) -> list[str]:
     return sorted(found - {"-h"})
 
 
-def options_of_program() -> list[str]:
-    """The program has no help; its page has its options."""
-    form = r"^\.It Fl (\w)(?: Ar \w+)? , Fl -([\w-]+)"
-    found = re.findall(form, read("man/aide-compare-program.8"), re.M)
-    return ["-" + short for short, _ in found] + ["--" + long for _, long in found]
-
-
 def named_in(text: str) -> set[str]:
     """The options that lines of a help begin with."""
     found = set()
@@ -129,8 +114,6 @@ class CompletionsTest(InstallTest):
         for words in SUBCOMMANDS + HOSTS:
             offered = ask_bash(self, "aide-compare", *words.split(), "-")
             self.assertEqual(set(offered), set(options(words)), f"options of {words}")
-        offered = ask_bash(self, "aide-compare", "-E", "-")
-        self.assertEqual(sorted(offered), sorted(options_of_program()), "those of the program")
         offered = ask_bash(self, "aide-compare", "s")
         self.assertLessEqual({"status", "sort", "setup"}, set(offered), "subcommands")
         for line, wanted in COMPLETED.items():
@@ -140,12 +123,8 @@ class CompletionsTest(InstallTest):
     def test_zsh(self) -> None:
         self.needs("zsh")
         folder = self.first(os.path.dirname(ZSH))
-        with open(self.first(ZSH)) as file:
-            named = set(re.findall(r"\breport_\w+", file.read()))
-        self.assertEqual(named, set(REPORT_OPTIONS), "zsh names the options of the report")
         for line, wanted in (
-            ("aide-compare --config-c", "aide-compare --config-check"),
-            ("aide-compare -E -A report_level=su", "report_level=summary"),
+            ("aide-compare hosts rep", "aide-compare hosts report"),
             ("aide-compare --exclude-f", "aide-compare --exclude-from"),
             ("aide-compare --exclude-from=VERS", "--exclude-from=VERSION"),
             ("aide-compare mail --max-s", "aide-compare mail --max-size"),
@@ -172,8 +151,6 @@ class CompletionsTest(InstallTest):
             return [one.split("\t")[0] for one in done.output_text.splitlines()]
 
         for line, wanted in (
-            ("aide-compare --config-c", ["--config-check"]),
-            ("aide-compare -E -A report_level=su", ["report_level=summary"]),
             ("aide-compare sort --h", ["--help"]),
             ("aide-compare sort VERS", ["VERSION"]),
             ("aide-compare --exclude-f", ["--exclude-from"]),
@@ -183,5 +160,3 @@ class CompletionsTest(InstallTest):
             ("aide-compare hosts rep", ["report"]),
         ):
             self.assertEqual(offered(line), wanted, "fish completes " + line)
-        named = {one.split("=")[0] for one in offered("aide-compare -E -A report_")}
-        self.assertEqual(named, set(REPORT_OPTIONS), "fish names the options of the report")
