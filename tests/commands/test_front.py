@@ -98,7 +98,10 @@ class FrontTest(CommandTest):
                 "--exclude /a /b old.db new.db",
                 b"new.db; each pattern needs an --exclude of its own",
             ),
-            ("--reprot old.db new.db", b"unrecognized arguments: --reprot\n"),
+            (
+                "--reprot old.db new.db",
+                b"unrecognized arguments: --reprot; did you mean --report\n",
+            ),
             ("a\033[31m", b"no file a\\033[31m\n"),
             ("mail a", b"try: aide-compare mail --help\n"),
             ("-A \udcff old.db new.db", b"-A/--after: needs a text in UTF-8: \\377\n"),

@@ -27,6 +27,7 @@ from aide_compare.base.options import (
     Operand,
     Option,
 )
+from aide_compare.base.words import nearest
 
 # What a command line gives, by the fields of a request, or the lines of the defaults, by the names
 # that the options have once they are parsed.
@@ -135,6 +136,7 @@ class Parser(argparse.ArgumentParser):
             argument_default=argparse.SUPPRESS,
             formatter_class=Formatter,
         )
+        self.names: list[str] = []  # Of all options.
         self.add_rows(asked.rows())
 
     def add_rows(self, rows: Mapping[str, Option | Operand]) -> None:
@@ -144,6 +146,7 @@ class Parser(argparse.ArgumentParser):
                 self.add_argument(field, **words_of_operand(row))
                 continue
             names = [each for each in (row.letter, row.name) if each]
+            self.names += names
             self.add_argument(*names, **words_of_option(row, field))
 
     def parse(self, arguments: Sequence[str]) -> OptionValues:
@@ -160,7 +163,11 @@ class Parser(argparse.ArgumentParser):
         raise Done  # After --help; faults are in `error`.
 
     def error(self, message: str) -> NoReturn:
-        raise usage_fault(message.replace(OPERAND, ""))
+        text = message.replace(OPERAND, "")
+        unknown = re.match("unrecognized arguments: (--[^ =]+)", text)
+        if unknown and (near := nearest(unknown[1], self.names)):
+            text += f"; did you mean {near}"
+        raise usage_fault(text)
 
 
 def read(

@@ -12,6 +12,16 @@ KINDS = ("added", "removed", "changed")
 SEVERITIES = ("high", "medium", "low")
 
 
+NEAR = 0.7  # How alike words are, as difflib says it.
+
+
+def nearest(word: str, words: Iterable[str]) -> str:
+    """The one of some words that is most like a word; "" if none is."""
+    import difflib
+
+    return next(iter(difflib.get_close_matches(word, list(words), 1, NEAR)), "")
+
+
 def words_of_side(side: str) -> str:
     """A side for people, as "trusted old"."""
     return side.replace("_", " ")

@@ -8,6 +8,7 @@ from typing import NoReturn
 
 from aide_compare.base.ending import Fault, OSErrorAsFault, Status, called, tell
 from aide_compare.base.escapes import shown
+from aide_compare.base.words import nearest
 
 # Each is a module, of which only the one that is asked for is loaded.
 COMMANDS = (
@@ -65,7 +66,6 @@ INIT = "AIDE makes databases: aide --init; aide-compare setup has it make the fi
 UPDATE = "AIDE makes databases: aide --update; aide-compare accept makes one the baseline"
 AIDES_JOBS = {"--check": CHECK, "-C": CHECK, "--init": INIT, "-i": INIT}
 AIDES_JOBS.update({"--update": UPDATE, "-u": UPDATE})
-NEAR = 0.7  # How alike words are, as difflib says it.
 HELP = ("--help", "-h")
 WORDS = (*COMMANDS, "hosts", "help")
 
@@ -83,10 +83,6 @@ def become_program(arguments: Sequence[str]) -> NoReturn:
         os.execv(program, [program, *arguments])
 
 
-def refuse(word: str, command: str) -> NoReturn:
-    raise Fault(Status.USAGE, f"there is no {command} {shown(word, 100)}", f"try: {command} --help")
-
-
 def refuse_other_words(arguments: Sequence[str]) -> None:
     """Refuses a job of AIDE, and a first word that is neither a subcommand nor a database."""
     word = next(iter(arguments), "")
@@ -96,12 +92,9 @@ def refuse_other_words(arguments: Sequence[str]) -> None:
         return
     if not word or "/" in word or "." in word or os.path.lexists(word):
         return
-    import difflib
-
-    near = difflib.get_close_matches(word, WORDS, 1, NEAR)
     advice = AIDES_JOBS.get(f"--{word}", f"{CHECK}; the subcommands: aide-compare help")
-    if near:
-        advice = f"did you mean: aide-compare {near[0]}"
+    if near := nearest(word, WORDS):
+        advice = f"did you mean: aide-compare {near}"
     raise Fault(Status.USAGE, f"there is no subcommand and no file {shown(word, 100)}", advice)
 
 
@@ -132,7 +125,9 @@ def run_hosts(arguments: Sequence[str]) -> int:
         return print_usage(HOSTS_USAGE)
     word = arguments[0]
     if word not in HOSTS:
-        refuse(word, "aide-compare hosts")
+        near = nearest(word, HOSTS)
+        advice = f"did you mean: {near}" if near else "try: aide-compare hosts --help"
+        raise Fault(Status.USAGE, f"there is no aide-compare hosts {shown(word, 100)}", advice)
     called(f"aide-compare hosts {word}")
     check_proof(f"hosts {word}", arguments)
     return loaded(f"hosts_{word}")(arguments[1:])
