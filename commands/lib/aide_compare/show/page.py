@@ -235,8 +235,6 @@ def heading_of(comparison: Comparison, rows: PageRows, title: str) -> Fields:
         name = shown(copy.name, MAX_PATH_TEXT)
         databases.append({"side": side, "name": name, "time": time, "sha256": copy.sha256})
     remarks = rows.remarks()
-    if counts.left_out:
-        remarks.insert(0, f"{capitalized(counts.left_out_words())}.")
     notes = [*comparison.doubts, *comparison.notes]
     remarks += [guarded(capitalized(note)) for note in notes[:MAX_NOTES]]
     total = f"{end.total:,} in the new database"
@@ -245,6 +243,7 @@ def heading_of(comparison: Comparison, rows: PageRows, title: str) -> Fields:
         "facts": [["Compared", minute_of(comparison.time)], ["Entries", total]],
         "databases": databases,
         "counts": [[word, count] for word, count in words.items() if count] if rows.count else [],
+        "is_whole": rows.listed == rows.count,
         "remarks": remarks,
         "lists": [],
         "outcome": "" if rows.count else "No differences between the two databases",

@@ -1,6 +1,7 @@
 // What a reader sees of values, of which every text is escaped already. `labels` are the attributes in their order, `names` their
 // words, the same for all digests, and `strength` the digests, the one to see first.
-const TIMES = ['Atime', 'Mtime', 'Ctime'], SIDES = ['old', 'new'], VARIOUS = 'various', RIGHTS = ['Perm', 'UID', 'GID'];
+const TIMES = ['Atime', 'Mtime', 'Ctime'], SIDES = ['old', 'new'], VARIOUS = 'various', OWNERS = ['UID', 'GID'];
+const PAIRS = ['Type', 'Perm', ...OWNERS];
 
 function timeOf(seconds) {
   const time = new Date(seconds * 1000);
@@ -13,6 +14,7 @@ const exactOf = (values, side, label) => textsOf(values, side, label).slice(0, 1
 
 function meaningOf(values, side, label) {
   const [exact, text] = textsOf(values, side, label);
+  if (OWNERS.includes(label) && exact === 0) return 'root';
   return text === undefined && TIMES.includes(label) && Number.isSafeInteger(exact) ? timeOf(exact) : text;
 }
 
@@ -55,14 +57,14 @@ function growthOf(kind, values) {
   return Number(kind === 'added' ? now : old);
 }
 
-// An attribute that has changed: of a right both values, of the size by how much.
+// An attribute that has changed: of the type and a right both values, of the size by how much.
 function changeOf(entry, label) {
   const { values, size } = entry;
   if (label === 'Size' && size) return names.Size + ' ' + (size > 0 ? '+' : '\u2212') + Math.abs(size);
-  if (!values || !RIGHTS.includes(label)) return names[label];
+  if (!values || !PAIRS.includes(label)) return names[label];
   const texts = SIDES.map((side) => isVarious(entry, side, label) ? VARIOUS
     : meaningOf(values, side, label) || exactOf(values, side, label) || 'none');
-  return names[label] + ' ' + texts.join(' -> ');
+  return label === 'Type' ? texts.join(' -> ').toLowerCase() : names[label] + ' ' + texts.join(' -> ');
 }
 
 // Permissions, owner and size of an entry that is there on one side only; of a changed one what has changed.
@@ -80,8 +82,9 @@ function factsOf(entry) {
   return [...new Set(entry.labels.map((label) => changeOf(entry, label)))];
 }
 
-// The heading: of what the page is, the counts, and what is missing.
-function showHeading({ title, facts, databases, counts, remarks, lists, outcome }) {
+// The heading: of what the page is, the counts, and what is missing. If every change is listed, the buttons have the counts too, so
+// these are only printed.
+function showHeading({ title, facts, databases, counts, is_whole: isWhole, remarks, lists, outcome }) {
   const rows = (pairs) => pairs.map(([name, value]) => make('div', { class: name.toLowerCase().replaceAll(' ', '-') },
     make('dt', {}, name), make('dd', {}, typeof value === 'number' ? number(value) : value)));
   const parts = [make('h1', {}, title)];
@@ -95,7 +98,7 @@ function showHeading({ title, facts, databases, counts, remarks, lists, outcome 
       ? make('details', { class: 'about' }, make('summary', {}, 'Databases, and what the words mean'), list, hint)
       : make('div', { class: 'about' }, list));
   }
-  if (counts.length) parts.push(make('dl', { class: 'counts' }, ...rows(counts)));
+  if (counts.length) parts.push(make('dl', { class: isWhole ? 'counts printed' : 'counts' }, ...rows(counts)));
   for (const remark of remarks) parts.push(make('p', { class: 'remark' }, remark));
   for (const [name, lines] of lists) {
     const list = make('ul', {}, ...lines.map((line) => make('li', {}, line)));
