@@ -3,42 +3,14 @@ modules. For trials that need hundreds of runs of what a command does with files
 from __future__ import annotations
 
 import json
+import os
+import shutil
 import subprocess
 from typing import Any
 
 from tests.lib.answer import Answer
 
-from .sandbox import FRONT, PYTHON, CommandTest
-
-# It imports each module, and becomes the command in a child for each line that it reads. A library
-# that acts at a call begins to count there.
-SERVE = """
-import ctypes, importlib, json, pkgutil
-
-sys.dont_write_bytecode = True
-sys.path.insert(0, os.path.dirname(os.path.dirname(os.path.realpath(__file__))) + "/lib")
-import aide_compare
-
-for module in pkgutil.walk_packages(aide_compare.__path__, "aide_compare."):
-    importlib.import_module(module.name)
-library = ctypes.CDLL(None)
-for line in sys.stdin:
-    child = os.fork()
-    if not child:
-        break
-    print(os.waitstatus_to_exitcode(os.waitpid(child, 0)[1]), flush=True)
-else:
-    os._exit(0)
-request = json.loads(line)
-os.environ.update(request["environment"])
-sys.argv = [__file__, *request["words"]]
-for number, path in enumerate(("/dev/null", "output", "errors")):
-    file = os.open(path, os.O_RDWR | os.O_CREAT | os.O_TRUNC, 0o600)
-    os.dup2(file, number)
-    os.close(file)
-if hasattr(library, "begin"):
-    library.begin()
-"""
+from .sandbox import HERE, PYTHON, CommandTest
 
 
 class Forked:
@@ -47,7 +19,7 @@ class Forked:
     def __init__(self, sandbox: CommandTest, tool: str, **environment: str) -> None:
         self.sandbox = sandbox
         self.words = tool.split(" ")[1:]
-        served = sandbox.write("bin/served", FRONT % SERVE, 0o755)
+        served = shutil.copy(os.path.join(HERE, "served.py"), sandbox.path("bin/served"))
         self.process = subprocess.Popen(
             [PYTHON, "-IS", served],
             cwd=sandbox.root,

@@ -7,19 +7,26 @@ import functools
 import gzip
 import hashlib
 import json
+import marshal
 import os
+import runpy
 import shutil
+import signal
 import subprocess
 import sys
 import tempfile
+import traceback
+import warnings
 from collections.abc import Iterator
-from typing import Any, Optional, Union
+from typing import Any, NoReturn, Optional, Union
+from unittest import mock
 
 from tests.lib.answer import Answer
 from tests.lib.apart import has_own_mounts
 from tests.lib.copies import COMPILED, copy_commands
 from tests.lib.program_test import ScratchTest
 from tests.lib.programs import find_program, lines_program_of
+from tests.lib.scratch import read
 from tests.lib.terminal import Terminal
 
 # Only for a tool that hangs: on a machine with much other work a run may take minutes.
@@ -36,35 +43,8 @@ signal.signal(signal.SIGPIPE, signal.SIG_DFL)
 %s
 os.execvp(sys.argv[1], sys.argv[1:])"""
 
-# The product's own command in a test's directory; after its imports names may get other values.
-FRONT = """#!/usr/bin/python3 -ISXutf8
-import os, sys
-from _frozen_importlib_external import PathFinder
-
-def text_of(name):
-    with open(os.path.dirname(os.path.dirname(os.path.realpath(__file__))) + name, "rb") as file:
-        return file.read()
-
-class Replacing:
-    replaced = eval(text_of("/replaced"))
-
-    @classmethod
-    def find_spec(cls, name, path=None, target=None):
-        if name not in cls.replaced:
-            return None
-        spec = PathFinder.find_spec(name, path, target)
-        execute = spec.loader.exec_module
-
-        def exec_module(module):
-            execute(module)
-            exec(cls.replaced[name], module.__dict__)
-
-        spec.loader.exec_module = exec_module
-        return spec
-
-sys.meta_path.insert(0, Replacing)
-%sexec(compile(text_of("/front"), __file__, "exec"))
-"""
+HERE = os.path.dirname(os.path.abspath(__file__))
+MAX_DESCRIPTORS = 1 << 16
 AS_NOBODY = "os.setgroups([]); os.setgid(%d); os.setuid(%d)" % (NOBODY, NOBODY)
 
 
@@ -120,12 +100,12 @@ class CommandTest(ScratchTest):
             source = os.path.join(compiled_commands(), name)
             shutil.copytree(source, self.path(name), copy_function=os.link)
         os.rename(self.path("bin/aide-compare"), self.path("front"))
-        self.write("bin/aide-compare", FRONT % "", 0o755)
+        self.write("bin/aide-compare", read("tests/commands/front.py"), 0o755)
         os.symlink("aide-compare", self.path("bin/check_aide_compare"))
-        self.replaced: dict[str, str] = {}
+        self.replaced: dict[str, dict[str, object]] = {}
+        self.patches: dict[str, Any] = {}
         # Packages' records and the administrator's directory are the test's, never this machine's.
         self.set_names("changes.recorded", DPKG=self.path("dpkg"))
-        self.after_import("changes.recorded", "Dpkg.__init__.__defaults__ = (DPKG,)\n")
         self.set_names("base.parser", DIRECTORY=self.path("etc"))
         for name, text in (("old", OLD), ("new", NEW)):
             self.write(name + ".db", text)
@@ -133,14 +113,45 @@ class CommandTest(ScratchTest):
 
     def set_names(self, module: str, **values: object) -> None:
         """Gives names of a module, which have to be there, other values in the test's commands."""
-        statements = [f"{name}\n{name} = {value!r}\n" for name, value in values.items()]
-        self.after_import(module, "".join(statements))
+        self.replaced.setdefault(f"aide_compare.{module}", {}).update(values)
+        self.write("replaced", marshal.dumps(self.replaced))
 
-    def after_import(self, module: str, statements: str) -> None:
-        """Statements that a command of this test executes in a module when it has been imported."""
-        name = f"aide_compare.{module}"
-        self.replaced[name] = self.replaced.get(name, "") + statements
-        self.write("replaced", repr(self.replaced))
+    def patch(self, target: str, new: object) -> None:
+        """Puts an object in the place of one, such as "show.page.heading_of": from then on the
+        test's commands are children of this process. What it needs of them it imports when it is
+        called."""
+        self.patches[f"aide_compare.{target}"] = new
+
+    def as_child(
+        self, words: list[str], environment: dict[str, str], before: str | None = None
+    ) -> dict[str, Any]:
+        """What subprocess is told beside the words of a command with patches."""
+        if not self.patches:
+            return {}
+        return {"preexec_fn": functools.partial(self.become, words, environment, before)}
+
+    def become(self, words: list[str], environment: dict[str, str], before: str | None) -> NoReturn:
+        """This process, a child that has its streams, becomes a command, with the patches."""
+        try:
+            warnings.simplefilter("ignore")  # As in a command.
+            os.closerange(3, MAX_DESCRIPTORS)
+            os.environ.clear()
+            os.environ.update(environment)
+            for number in (signal.SIGPIPE, signal.SIGXFSZ):
+                signal.signal(number, signal.SIG_IGN)
+            for name in [name for name in sys.modules if name.partition(".")[0] == "aide_compare"]:
+                del sys.modules[name]
+            sys.argv = words
+            sys.path.insert(0, self.path("lib"))
+            front = runpy.run_path(words[0], run_name="front")
+            for target, new in self.patches.items():
+                mock.patch(target, new).start()
+            exec(before or "", {"os": os})
+            front["become_command"]()
+        except BaseException:
+            traceback.print_exc()
+        finally:
+            os._exit(99)
 
     @contextlib.contextmanager
     def mounted(self, name: str, *words: str) -> Iterator[bool]:
@@ -178,8 +189,11 @@ class CommandTest(ScratchTest):
         """Starts a tool in this folder, without waiting for it."""
         pipes = {"stdout": subprocess.PIPE, "stderr": subprocess.PIPE}
         streams: dict[str, Any] = {"stdin": subprocess.DEVNULL, **pipes, **more}
-        command = after(before, self.command(tool, *words))
         given = self.environment(**(environment or {}))
+        command = self.command(tool, *words)
+        streams.update(self.as_child(command, given, before))
+        if not self.patches:
+            command = after(before, command)
         return subprocess.Popen(command, cwd=self.root, env=given, **streams)
 
     def call(
@@ -208,7 +222,9 @@ class CommandTest(ScratchTest):
     ) -> Terminal:
         """A tool in this folder on a terminal."""
         given = self.environment(**{"TERM": "xterm", **(environment or {})})
-        return Terminal(self.command(tool, *words), cwd=self.root, env=given, **streams)
+        command = self.command(tool, *words)
+        streams.update(self.as_child(command, given))
+        return Terminal(command, cwd=self.root, env=given, **streams)
 
     def leftovers(self) -> list[str]:
         return os.listdir(self.room)

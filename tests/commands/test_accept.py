@@ -8,6 +8,7 @@ import re
 import shutil
 import time
 from collections.abc import Callable
+from typing import Any
 
 from .accepting import AcceptingTest, BASE, DIGEST, DONE, FILES, OLDER, TOOL, contents, fresh
 from .units.calls import misused
@@ -284,9 +285,15 @@ class AcceptPartlyTest(AcceptingTest):
     def test_unsound_merge(self) -> None:
         """What is merged is read by the program before it becomes the baseline."""
         fresh(self)
-        cut = "keep_open\nmerging = keep_open\ndef keep_open(*words):\n"
-        cut += "    merged = merging(*words)\n    os.ftruncate(merged.copy.fd, 60)\n"
-        self.after_import("commands.accept", cut + "    return merged\n")
+
+        def cut(*words: Any) -> Any:
+            from aide_compare.compare.kept_open import keep_open
+
+            merged = keep_open(*words)
+            os.ftruncate(merged.copy.fd, 60)
+            return merged
+
+        self.patch("commands.accept.keep_open", cut)
         self.refuses(24, b" is no sound database\n", sha256(NEW), *OPEN)
 
     def test_many(self) -> None:

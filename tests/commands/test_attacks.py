@@ -7,6 +7,7 @@ import signal
 import subprocess
 import time
 from typing import Any
+from unittest import mock
 
 from tests.lib.answer import Answer
 from tests.lib.program_test import slow
@@ -80,12 +81,12 @@ class AttacksTest(CommandTest):
 
     def test_broken_off(self) -> None:
         """What breaks a comparison off is told as what it is, by the state too."""
-        failing = "def failing(*words):\n    raise %s\nopen_databases\nopen_databases = failing\n"
-        for raised, status, said in (
-            ("MemoryError", 22, b"out of memory"),
-            ("OSError(5, 'why')", 18, b"why"),
-        ):
-            self.after_import("compare.work", failing % raised)
+        faults: list[tuple[Exception, int, bytes]] = [
+            (MemoryError(), 22, b"out of memory"),
+            (OSError(5, "why"), 18, b"why"),
+        ]
+        for raised, status, said in faults:
+            self.patch("commands.comparison_job.open_databases", mock.Mock(side_effect=raised))
             self.refused(status, said, TOOL, "old.db", "new.db", state="state")
 
     def test_no_process(self) -> None:

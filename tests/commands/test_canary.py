@@ -25,13 +25,15 @@ NAMES = ("www1", "www2", "www3", "www4")
 MARK = b"/usr/bin/mark"
 FIVE = "0 added, 0 removed, 5 changed: "
 # A state of another database than the one that is there.
-OTHER = """
-copy = copy_database
-def copy_database(*words):
-    made = copy(*words)
-    made.digest = "0" * 64
-    return made
-"""
+
+
+def other_copy(*words: Any) -> Any:
+    """A copy of a database whose digest is another one."""
+    from aide_compare.compare.unpack import copy_database
+
+    copy = copy_database(*words)
+    copy.digest = "0" * 64
+    return copy
 
 
 def database(is_new: bool, number: int, mark: bytes = b"") -> bytes:
@@ -133,7 +135,7 @@ class CanaryTest(CommandTest):
     def test_changed(self) -> None:
         """Only the very databases that were compared are trusted."""
         hosts = self.fleet("www3")
-        self.after_import("hosts.canary", OTHER)
+        self.patch("hosts.canary.copy_database", other_copy)
         lines = self.compared(hosts, "--canary", "www1")
         cause = r"aide\.db(\.new)? is not the database that was compared\Z"
         self.assertRegex(lines[1], cause)

@@ -129,14 +129,16 @@ class DecidingTest(CommandTest):
         digest = base64.b64encode(hashlib.sha256(honest).digest())
         self.write("o.db", list_database(os.fsencode(place), b"sha256", digest))
         self.write("n.db", NEW)
-        swap = f"""trusted_text
-def trusted_text(path, what, read=trusted_text):
-    text = read(path, what)
-    if path == {place!r}:
-        open(path, "wb").write({honest!r})
-    return text
-"""
-        self.after_import("base.files", swap)
+
+        def swapped(path: str, what: str) -> bytes:
+            from aide_compare.base.files import trusted_text
+
+            text = trusted_text(path, what)
+            if path == place:
+                self.write("etc/defaults", honest)
+            return text
+
+        self.patch("base.parser.trusted_text", swapped)
         answer = self.call("aide-compare", "o.db", "n.db")
         self.assertIn(b"4 changes, all silent", answer.output)
         self.assertIn(b"defaults, which decides on reports, has changed since", answer.errors)

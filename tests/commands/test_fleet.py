@@ -9,6 +9,7 @@ import subprocess
 import time
 from collections.abc import Sequence
 from typing import Any
+from unittest import mock
 
 from tests.lib.answer import Answer
 from tests.lib.waiting import is_alive, until
@@ -82,10 +83,12 @@ class Fleet:
 
     def start(self, words: Sequence[str], **more: Any) -> subprocess.Popen[bytes]:
         places = (self.sandbox.path("stubs"), self.sandbox.path("bin"), os.environ["PATH"])
+        environment = self.sandbox.environment(PATH=":".join(places))
+        more.update(self.sandbox.as_child(list(words), environment))
         return subprocess.Popen(
             words,
             cwd=self.sandbox.root,
-            env=self.sandbox.environment(PATH=":".join(places)),
+            env=environment,
             stdin=subprocess.DEVNULL,
             stdout=subprocess.PIPE,
             stderr=subprocess.PIPE,
@@ -191,7 +194,7 @@ class FleetTest(CommandTest):
     def test_late(self) -> None:
         """A comparison that takes too long is ended, and the state says so."""
         self.set_names("hosts.workers", GRACE=1)
-        self.after_import("hosts.host_comparison", "def keep_comparison(*_):\n    time.sleep(60)\n")
+        self.patch("hosts.host_comparison.keep_comparison", lambda *_: time.sleep(60))
         begun = time.monotonic()
         self.fleet.put("good1", OLD)
         said = self.fleet.compare_one("good1", "--time", "1s")
@@ -237,7 +240,7 @@ class FleetTest(CommandTest):
         self.fleet.not_compared("ended without an answer", said, "killer9")
         self.assertIn(f"good2 {DIFFERS}\n", said.output_text, "files are closed after each")
         self.assertEqual(len(said.output_text.splitlines()), 19, said)
-        self.after_import("hosts.fetching", "def transfer(*_):\n    raise MemoryError\n")
+        self.patch("hosts.fetching.transfer", mock.Mock(side_effect=MemoryError))
         self.fleet.not_compared("out of memory", self.fleet.compare_one("good1"), "good1", 22)
 
     def test_unread(self) -> None:

@@ -81,11 +81,15 @@ class HandsTest(CommandTest):
     def test_read_once(self) -> None:
         """A run opens and parses the defaults once: what it obeys is what it looks up."""
         self.prepare("--to a@b.example\n")
-        counted = "trusted_text\nreading = trusted_text\ndef trusted_text(path, *words):\n"
-        counted += (
-            "    open('read', 'a').write(path[-8:] + ' ')\n    return reading(path, *words)\n"
-        )
-        self.after_import("base.parser", counted)
+
+        def counted(path: str, *words: str) -> bytes:
+            from aide_compare.base.files import trusted_text
+
+            with open("read", "a") as file:
+                file.write(f"{path[-8:]} ")
+            return trusted_text(path, *words)
+
+        self.patch("base.parser.trusted_text", counted)
         for tool in (TOOL, "aide-compare json", "aide-compare mail"):
             self.call(tool, *NIGHT)
             self.assertEqual(self.read("read"), b"defaults ", tool)

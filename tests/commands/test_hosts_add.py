@@ -9,6 +9,9 @@ import signal
 import socket
 import subprocess
 import termios
+import time
+from typing import Any
+from unittest import mock
 
 from tests.lib.answer import Answer
 from tests.lib.waiting import until
@@ -198,15 +201,20 @@ class HostsAddTest(CommandTest):
         said = self.fleet.call("aide-compare hosts add", *words, "www")
         self.assertEqual((said.status, "a baseline already" in said.error_text), (24, True), said)
         self.fleet.put("db1", OLD, None)
-        slow = "def refuse_unsound(_):\n    __import__('time').sleep(60)\n"
-        self.after_import("commands.hosts_add", slow)
+        self.patch("commands.hosts_add.refuse_unsound", lambda _: time.sleep(60))
         self.refuses(18, "db1 took more than 4 seconds", "db1", "--time=4s")
 
     def test_at_once(self) -> None:
         """Of commands that change the file of hosts at once, each keeps what the others wrote, and
         waits for a lock, but not for ever."""
-        late = "replace = lambda *words, **more: time.sleep(0.7) or real(*words, **more)\n"
-        self.after_import("hosts.hosts_file", "import time\nreal = replace\n" + late)
+
+        def late(*words: Any, **more: Any) -> None:
+            from aide_compare.base.replacement import replace
+
+            time.sleep(0.7)
+            replace(*words, **more)
+
+        self.patch("hosts.hosts_file.replace", late)
         file = self.write("etc-hosts", "gone\n")
         digest = ("--sha256", sha256(OLD))
         runs = []
@@ -259,9 +267,7 @@ class HostsAddTest(CommandTest):
         os.symlink("none", self.path("etc-hosts"))
         self.refuses(18, "cannot open the file of hosts", *words)
         for name, told in (("is_same", "read what it sent"), ("run", "run ssh")):
-            self.after_import(
-                "hosts.fetching", f"def {name}(*_, **__):\n    raise OSError(5, 'x')\n"
-            )
+            self.patch(f"hosts.fetching.{name}", mock.Mock(side_effect=OSError(5, "x")))
             self.refuses(18, f"www: cannot {told}: x", *words)
 
     def test_sshd(self) -> None:

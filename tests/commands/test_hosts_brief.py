@@ -136,7 +136,7 @@ class HostsPageTest(CommandTest):
         hosts.compared(texts)
         whole = data_in(hosts.report("--format=page").output_text)
         self.assertEqual((len(whole["rows"]), whole["heading"]["remarks"]), (301, []))
-        self.after_import("hosts.hosts_page", f"hosts_page.__defaults__ = ({ROOM},)\n")
+        self.set_names("hosts.hosts_page", MAX_PAGE=ROOM)
         page = hosts.report("--format=page").output_text
         self.assertLessEqual(len(page.encode()), ROOM)
         data = data_in(page)

@@ -15,6 +15,7 @@ import subprocess
 import time
 from collections.abc import Iterator, Sequence
 from typing import Any
+from unittest import mock
 
 from tests.lib.answer import Answer
 from tests.lib.waiting import until
@@ -291,9 +292,7 @@ class HostsReportTest(CommandTest):
         text = self.mailed(hosts, "--attach-page").replace("=\n", "")
         self.assertIn(f"<title>{title}</title>", text)
         self.assertIn("This page has no room for 500 more changes", text)
-        self.after_import(
-            "commands.hosts_report", "def hosts_page(*_):\n    raise OSError(5, 'x')\n"
-        )
+        self.patch("commands.hosts_report.hosts_page", mock.Mock(side_effect=OSError(5, "x")))
         self.assertEqual(hosts.report("--to", "root", "--attach-page").status, 18)
         self.assertIn(": no report of hosts\n", self.read("mail").decode())
         none = self.write("none", b"# None.\n")

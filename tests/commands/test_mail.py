@@ -8,6 +8,7 @@ import os
 import subprocess
 import time
 from typing import Any
+from unittest import mock
 
 from tests.commands.viewers.pages import heads_in
 from tests.lib.scratch import read
@@ -153,8 +154,7 @@ class TextsTest(MailTest):
         message = self.mail("--attach-page", "old.db", "new.db")
         assert message is not None
         self.assertIn(b'"remarks":["0 of 4 changes', body(message.get_payload()[1]))
-        failing = "heading_of\ndef heading_of(*words): raise OSError(28, 'no room')\n"
-        self.after_import("show.page", failing)
+        self.patch("show.page.heading_of", mock.Mock(side_effect=OSError(28, "no room")))
         text = body(self.mail("--attach-page", "old.db", "new.db"))
         said = "there is no page: no room"
         self.assertTrue(words_of(text).endswith(said), text)

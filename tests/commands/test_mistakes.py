@@ -2,6 +2,8 @@
 from __future__ import annotations
 
 import os
+from collections.abc import Callable
+from typing import NoReturn
 
 from tests.commands import mail
 from tests.commands.mail import body, subject
@@ -11,27 +13,30 @@ from .sandbox import CommandTest
 PAIR = ("old.db", "new.db")
 # Functions that a comparison calls after the program has answered, by their modules.
 PLACES = {
-    "judging": ("changes.judged", "Judged._values"),
-    "severity": ("changes.severity", "Severity.ranks"),
-    "brief": ("show.brief", "brief"),
-    "mail": ("mail.text", "end_lines"),
-    "subject": ("commands.mail", "subject_of"),
-    "notes": ("commands.mail", "notes_of"),
-    "page": ("show.page", "heading_of"),
-    "state": ("compare.state", "State.text"),
-    "result": ("compare.comparison", "Comparison.state"),
-    "former state": ("commands.mail", "read_state"),
+    "judging": "changes.judged.Judged._values",
+    "severity": "changes.severity.Severity.ranks",
+    "brief": "show.brief.brief",
+    "mail": "mail.text.end_lines",
+    "subject": "commands.mail.subject_of",
+    "notes": "commands.mail.notes_of",
+    "page": "show.page.heading_of",
+    "state": "compare.state.State.text",
+    "result": "compare.comparison.Comparison.state",
+    "former state": "commands.mail.read_state",
 }
-FAILING = """
-def failing(*words, **more):
-    raise {error}
-{name}
-{name} = failing
-"""
-ERROR = "KeyError('an odd key')"
-SAID = b"a fault of this command: KeyError: 'an odd key' (<string>:3)"
+
+
+def failing(error: Exception) -> Callable[..., NoReturn]:
+    def fail(*_: object, **__: object) -> NoReturn:
+        raise error
+
+    return fail
+
+
+ERROR = KeyError("an odd key")
+SAID = b"a fault of this command: KeyError: 'an odd key' (commands/test_mistakes.py:"
 # In these a mail says the changes by their severities all the same.
-JUDGED = ("page", "state")
+JUDGED = "page.state"
 # In these nothing is known of the changes when the mail is made.
 UNKNOWN = ("mail", "subject", "notes", "result", "former state")
 
@@ -40,13 +45,11 @@ class MistakesTest(CommandTest):
     def setUp(self) -> None:
         super().setUp()
         mail.prepare(self)
-        self.before = dict(self.replaced)
 
-    def plant(self, label: str, error: str = ERROR) -> None:
+    def plant(self, label: str, error: Exception = ERROR) -> None:
         """Makes the function of this label fail in each command of the test."""
-        module, name = PLACES[label]
-        self.replaced = dict(self.before)
-        self.after_import(module, FAILING.format(name=name, error=error))
+        self.patches.clear()
+        self.patch(PLACES[label], failing(error))
 
     def test_mail(self) -> None:
         """The mail leaves with what differs, as far as it is known, and with the cause."""
@@ -73,8 +76,7 @@ class MistakesTest(CommandTest):
                 continue
             self.plant(label)
             self.call("aide-compare status", "--state", "state")
-            self.replaced = dict(self.before)
-            self.after_import("base.escapes", "")
+            self.patches.clear()
             self.answered(7, None, None, "aide-compare", "--state", "state", *PAIR)
             self.plant(label)
             words = ("--state", "state", "--page", "page.html", *PAIR)
@@ -101,9 +103,9 @@ class MistakesTest(CommandTest):
 
     def test_traceback(self) -> None:
         """A variable has it printed, once, without a byte of others that a terminal obeys."""
-        self.plant("brief", "ValueError('an odd\\x1b[31m\\ntext')")
+        self.plant("brief", ValueError("an odd\x1b[31m\ntext"))
         debug = {"AIDE_COMPARE_DEBUG": "1"}
-        said = b"a fault of this command: ValueError: an odd\\033[31m\\012text (<string>:3)\n"
+        said = b"a fault of this command: ValueError: an odd\\033[31m\\012text (commands/"
         errors = self.answered(18, None, said, "aide-compare", *PAIR, environment=debug).errors
         self.assertEqual(errors.count(b"Traceback (most recent call last)"), 1, errors)
         self.assertRegex(errors, rb'aide-compare:   File "[^"]+/commands/compare\.py", line \d+')

@@ -6,6 +6,7 @@ import os
 import random
 import sys
 from typing import Any
+from unittest import mock
 
 from tests.commands import mail
 from tests.commands.forked import Forked
@@ -122,8 +123,13 @@ class RecordedTest(CommandTest):
     def test_names(self) -> None:
         """Directories that are links to those in /usr are followed."""
         host = upgraded(TWO, Package("tool", "2", {b"/bin/tool": TWO}))
-        for links, want in (({}, OPEN), ({b"/bin": b"usr/bin"}, RECORDED), ({b"/bin": b"x"}, OPEN)):
-            self.after_import("changes.usr", f"link_here\nlink_here = {links!r}.get\n")
+        rows: list[tuple[dict[bytes, bytes], str]] = [
+            ({}, OPEN),
+            ({b"/bin": b"usr/bin"}, RECORDED),
+            ({b"/bin": b"x"}, OPEN),
+        ]
+        for links, want in rows:
+            self.patch("changes.usr.link_here", links.get)
             self.check(f"links of this machine: {links}", host, {BIN + b"tool": want})
 
     def test_links(self) -> None:
@@ -274,9 +280,7 @@ class ManyTest(CommandTest):
     def test_records_that_end(self) -> None:
         """If a change cannot be read after some were recorded, all are open."""
         host = many_kinds()
-        fails = "known = Matcher.has\nrooms = [1, 1, 1, 1]\n"
-        fails += "Matcher.has = lambda *words: rooms.pop() and known(*words)\n"
-        self.after_import("changes.recorded", fails)
+        self.patch("changes.recorded.Matcher.has", mock.Mock(side_effect=[True] * 4))
         answer, objects = host.ask(self)
         self.assertIn(b"no package groups the changes", answer.errors)
         found = standings_of(objects, ("standing",))

@@ -8,17 +8,12 @@ import stat
 from collections.abc import Callable
 from typing import Any
 
+from aide_compare.commands import setup_machine
+
 from .sandbox import AS_NOBODY, CommandTest, NOBODY, OLD, UMASK
 
 TOOL = "aide-compare setup"
 NOBODY_NAME = pwd.getpwuid(NOBODY).pw_name
-# How a test replaces what setup finds on a machine.
-MACHINE = """PATHS = Paths({root!r})
-EXAMPLES = ({examples!r},)
-PROGRAM_PATH = {stubs!r} + ":" + PROGRAM_PATH
-ENVIRONMENT["PATH"] = PROGRAM_PATH
-AIDES_USER = {user!r}
-"""
 DAYS_OPTIONS = ["--databases", "--max-age", "--state", "--trusted"]
 DATABASES, DAILY = "root/var/lib/aide/", "root/var/lib/aide-compare/daily"
 DEFAULTS, WITHOUT = "root/etc/aide-compare/defaults", "root/etc/aide-compare/without"
@@ -44,18 +39,22 @@ FILES = {
     "contrib/cron/aide-compare.cron.daily": "#!/bin/sh\n",
 }
 # The second call that changes the owner or the mode of a directory kills the command.
-KILLED_BETWEEN = """
-calls = []
-def counted_call(call):
-    def counted(file, *given):
+
+
+def killed_between(call: Callable[..., None]) -> Callable[..., None]:
+    """A call of the system, before which the process dies if it is the second one for directories."""
+
+    def counted(file: int, *given: int) -> None:
         if stat.S_ISDIR(os.fstat(file).st_mode):
-            calls.append(file)
-        if len(calls) > 1:
+            CALLS.append(file)
+        if len(CALLS) > 1:
             os.kill(os.getpid(), 9)
         call(file, *given)
+
     return counted
-os.fchown, os.fchmod = map(counted_call, (os.fchown, os.fchmod))
-"""
+
+
+CALLS: list[int] = []
 # What the last lines of a first setup tell.
 NEXT = """\
 Done: (8|9|10) steps now\\.
@@ -83,9 +82,15 @@ class SetupTest(CommandTest):
         os.chown(self.path("root/var/lib/aide"), NOBODY, NOBODY)
 
     def set_machine(self, user: str) -> None:
-        places = {"root": "root", "examples": "contrib", "stubs": "stubs"}
-        paths = {name: self.path(place) for name, place in places.items()}
-        self.after_import("commands.setup_machine", MACHINE.format(user=user, **paths))
+        path = f"{self.path('stubs')}:{setup_machine.PROGRAM_PATH}"
+        for name, value in (
+            ("PATHS", setup_machine.Paths(self.path("root"))),
+            ("EXAMPLES", (self.path("contrib"),)),
+            ("PROGRAM_PATH", path),
+            ("ENVIRONMENT", {**setup_machine.ENVIRONMENT, "PATH": path}),
+            ("AIDES_USER", user),
+        ):
+            self.patch(f"commands.setup_machine.{name}", value)
 
     def set_up(self, label: str, words: tuple[str, ...], status: int, *output: bytes) -> Any:
         """What setup answers that ends with this status, without a word on standard error."""
@@ -267,10 +272,11 @@ class SetupTest(CommandTest):
     def test_killed(self) -> None:
         """A step that was killed before its directory got its mode is not taken for done."""
         umask = UMASK % 0o77
-        self.after_import("commands.setup", KILLED_BETWEEN)
+        before = dict(self.patches)
+        self.patch("commands.setup.os.fchown", killed_between(os.fchown))
+        self.patch("commands.setup.os.fchmod", killed_between(os.fchmod))
         self.assertEqual(self.call(TOOL, before=umask).status, -9)
-        self.replaced["aide_compare.commands.setup"] = ""
-        self.after_import("commands.setup", "")
+        self.patches = before
         self.call(TOOL, before=umask)
         done = os.stat(self.path(DAILY))
         self.assertEqual((stat.S_IMODE(done.st_mode), done.st_uid), (0o755, NOBODY))
@@ -309,6 +315,6 @@ class SetupTest(CommandTest):
         self.expect("and --check goes on", self.call(TOOL, "--check"), 18, missing, b"")
         os.remove(aide)
         self.expect("no AIDE", self.call(TOOL), 18, b"", b"apt install aide-common\n")
-        self.after_import("commands.setup", "os.path.lexists = lambda path: True\n")
+        self.patch("commands.setup.os.path.lexists", lambda path: "libexec" not in path)
         missing = [b"missing: the owner of ", b"aide.db.new: ", b"things are missing\n"]
         self.expect("what goes just then", self.call(TOOL, "--check"), 18, missing, b"")

@@ -4,6 +4,7 @@ from __future__ import annotations
 import os
 import re
 import subprocess
+from unittest import mock
 
 from tests.commands import mail
 from tests.commands.made_up import FILE_BITS, Host, Package, standings_of, time_of
@@ -22,7 +23,6 @@ SAMPLE = {
     b"/usr/lib/tool": "recorded medium tool 2",
 }
 # Packages whose names cannot be found out.
-UNNAMED = "named_packages\ndef named_packages(*_):\n    raise MemoryError\n"
 WORDS = "4 open (1 high), 1 recorded of 6 changes"
 BRIEF = f"""{WORDS}
 
@@ -170,13 +170,12 @@ class StandingsTest(mail.MailTest):
         """Of changes that cannot be judged, report and status stand, and each is an alarm."""
         host = silent()
         host.write(self)
-        before = dict(self.replaced)
-        for fault, said in (
-            ("MemoryError", b"out of memory"),
-            ("OSError(28, 'no room')", b"no room"),
-        ):
-            failing = f"def Severity():\n    raise {fault}\n"
-            self.after_import("changes.judged", "Severity\n" + failing)
+        faults: list[tuple[Exception, bytes]] = [
+            (MemoryError(), b"out of memory"),
+            (OSError(28, "no room"), b"no room"),
+        ]
+        for fault, said in faults:
+            self.patch("changes.judged.Severity", mock.Mock(side_effect=fault))
             answer = self.call(TOOL, "--state", "state", "host-old.db", "host-new.db")
             want = [b"the changes are not judged: ", said]
             self.expect(f"no judgement by {fault}", answer, 4, b"Changed entries:", want)
@@ -189,8 +188,8 @@ class StandingsTest(mail.MailTest):
         self.expect("the page then", answer, 4, b"<pre>Differ", want)
         self.write("odd.db", self.read("host-new.db").replace(b"\n/", b"\n/\xc2\x9b/"))
         self.answered(3, b": /\\302\\233/srv/same\n", want, TOOL, "host-old.db", "odd.db")
-        self.replaced = before
-        self.after_import("lines.change", "Counts.fits\nCounts.fits = lambda *_: False\n")
+        self.patches.clear()
+        self.patch("lines.change.Counts.fits", lambda *_: False)
         said = b"the counts of the standings are not those of the changes"
         self.answered(4, None, said, TOOL, "host-old.db", "host-new.db")
 
@@ -203,7 +202,7 @@ class StandingsTest(mail.MailTest):
         told = [cause, b"5 open (1 high)"]
         self.expect("records that others can write", answer, 7, b"5 open (1 high) of 6", told)
         os.chmod(self.path("dpkg"), 0o755)
-        self.after_import("changes.judged", UNNAMED)
+        self.patch("show.judgement.named_packages", mock.Mock(side_effect=MemoryError))
         answer = self.call(TOOL, "o.db", "n.db")
         told = [b"no package groups the changes: out of memory", b"5 open (1 high)"]
         self.expect("names that fail", answer, 7, b"5 open (1 high) of 6", told)

@@ -285,9 +285,9 @@ class CheckTest(StateTest):
     def test_own_failures(self) -> None:
         """What the check itself cannot do is UNKNOWN, since 1 and 2 say what was found."""
         self.put()
-        self.set_names("show.check", read_state=None)
+        self.patch("show.check.read_state", None)
         self.check("a mistake of its own", 3, "a fault of this command: TypeError")
-        self.after_import("show.check", "from aide_compare.compare.state import read_state\n")
+        self.patches.clear()
         few = "resource.setrlimit(resource.RLIMIT_NOFILE, (4, 4))"
         self.assertEqual(self.ask(CHECK, before=few).status, 3, "few descriptors")
         none = "resource.setrlimit(resource.RLIMIT_NPROC, (0, 0))"
