@@ -262,6 +262,8 @@ class HostsAddTest(CommandTest):
         self.refuses(24, "no sound database", "other")
         for name in ("-x", "x\ny", "$(x)", "a#b"):
             self.refuses(15, "", name, "--")
+        said = self.fleet.call("aide-compare hosts add", "bad name")
+        self.assertIn("the name of a host begins with", said.error_text, "before its terminal")
         self.fleet.put("www", OLD, None)
         words = ("www", "--sha256", sha256(OLD))
         os.symlink("none", self.path("etc-hosts"))

@@ -98,7 +98,7 @@ class ShowTest(CommandTest):
 
     def test_refused(self) -> None:
         for words, said in (
-            (["c", *PAIR], "a path begins with /"),
+            (["c", *PAIR], "argument PATH: it comes first and begins with /: c"),
             (["--only", "/c", "/c", *PAIR], "unrecognized arguments: --only"),
             (["--report", "/c", *PAIR], "unrecognized arguments: --report"),
         ):

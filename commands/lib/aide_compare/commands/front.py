@@ -139,7 +139,9 @@ def print_help(words: Sequence[str]) -> int:
         return print_usage(USAGE)
     if words[0] not in WORDS:
         text = f"there is no aide-compare {shown(words[0], 100)}"
-        raise Fault(Status.USAGE, text, f"there are: {', '.join(WORDS)}")
+        near = nearest(words[0], WORDS)
+        advice = f"did you mean: {near}" if near else f"there are: {', '.join(WORDS)}"
+        raise Fault(Status.USAGE, text, advice)
     if words[0] == "hosts":
         return main([*words[:2], "--help"])
     return main([words[0], "--help"])

@@ -17,6 +17,7 @@ from aide_compare.compare.unpack import Opened, copy_opened
 from aide_compare.hosts.fetching import DATABASE, ask_for_key, fetch
 from aide_compare.hosts.hosts_file import add_host
 from aide_compare.hosts.store import BASELINE, MAX_BASELINE, MAX_MEMORY, NEW_FILE, HostDirectory
+from aide_compare.hosts.store import check_name
 
 HELP = Help(
     name="aide-compare hosts add",
@@ -103,6 +104,8 @@ def add(request: AddRequest, host: str) -> int:
 
 def main(arguments: Sequence[str]) -> int:
     request = read(AddRequest, arguments, HELP)
+    for host in request.hosts:
+        check_name(host)
     if request.digest and len(request.hosts) > 1:
         raise Fault(Status.USAGE, "--sha256 is that of one HOST")
     if not request.digest and not os.isatty(0):

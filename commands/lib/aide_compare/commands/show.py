@@ -26,7 +26,7 @@ def one_path(text: str) -> Pattern:
     """The pattern that means one path, as it is or as it is printed."""
     path = unshown(os.fsencode(text))
     if not path.startswith(b"/"):
-        raise argparse.ArgumentTypeError(f"a path begins with /: {shown(path, 200)}")
+        raise argparse.ArgumentTypeError(f"it comes first and begins with /: {shown(path, 200)}")
     return Pattern(WILD.sub(rb"\\\g<0>", path.rstrip(b"/") or path))
 
 
