@@ -19,6 +19,8 @@ from tests.lib.answer import Answer, run
 from tests.lib.scratch import TOP
 from tests.source.test_docs import read_text, tracked
 
+# A test copies these next to the commands. They read no arguments.
+COPIED = ("tests/commands/front.py", "tests/commands/served.py")
 MAIN = re.compile("^if __name__ == ['\"]__main__['\"]:$", re.M)
 
 
@@ -27,7 +29,8 @@ def tools() -> Iterator[tuple[str, str]]:
     for name in sorted(tracked()):
         text = read_text(name)
         is_python = name.endswith(".py") or re.match("#!/usr/bin/(env )?python3", text)
-        if is_python and MAIN.search(text) and not name.startswith("commands/"):
+        is_tool = is_python and name not in COPIED and not name.startswith("commands/")
+        if is_tool and MAIN.search(text):
             yield name, text
 
 
