@@ -80,7 +80,9 @@ class ShowTest(CommandTest):
         words = f"/x: content, {mode}, owner root -> 1000, size 5 -> 6, links 1 -> 2, ACL\n"
         self.assertIn(words, brief)
         rows = seen(self.call("aide-compare page", *pair).output)["entries"]
-        self.assertEqual(rows[0]["about"], f"size +1, {mode}, owner root -> 1000, links, content, ACL")
+        self.assertEqual(
+            rows[0]["about"], f"size +1, {mode}, owner root -> 1000, links, content, ACL"
+        )
         names = ["size", "mode", "owner", "links", "ACL", "SHA256"]
         self.assertEqual([row[0] for row in rows[0]["rows"]], names)
         lines = self.call(TOOL, "/x", *pair).output.decode().splitlines()

@@ -50,7 +50,12 @@ STATUSES = [
     ("removed (%d)", ADDED, EMPTY, COMPARE),
     ("changed (%d)", ADDED, ADDED.replace(" 5 ", " 6 "), COMPARE),
     ("the command line is not understood", OLD, NEW, "aide-compare --no-such-option"),
-    ("the configuration or the list has an error", OLD, NEW, COMPARE + " -A report_level=no_such_level"),
+    (
+        "the configuration or the list has an error",
+        OLD,
+        NEW,
+        COMPARE + " -A report_level=no_such_level",
+    ),
     ("a file could not be opened", OLD, NEW, COMPARE + " -A database_new=file:/no/such/file"),
     (
         "a database changed while a report was made of it",
