@@ -75,7 +75,7 @@ class AttacksTest(CommandTest):
             is_new = self.read("state") != BEFORE and self.state()["status"] == str(answer.status)
             is_kept = not is_compared(answer) and self.read("state") == BEFORE
             self.holds("the state with %d MB" % size, is_new or is_kept, self.read("state"))
-        none = "import builtins, runpy\nbuiltins.bytearray = 0\nrunpy.run_path('bin/aide-compare')"
+        none = "import builtins, runpy\nbuiltins.bytearray = 0\nrunpy.run_path('bin/aide-compare', run_name='__main__')"
         words, no = ["/usr/bin/python3", "-ISc", none], subprocess.DEVNULL
         self.assertEqual(subprocess.call(words, cwd=self.root, stderr=no), 18, "no reserve at all")
 

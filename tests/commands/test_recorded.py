@@ -24,7 +24,7 @@ OPEN, RECORDED = "open", "recorded tool 2"
 SPEC = b"@@begin_db\n@@db_spec name attr perm uid gid size\n"
 FEW, MANY = 20, 20000
 # What many changes may take beside what few take, in kB: each has some 20 bytes in memory.
-GROWTH = 3 << 10
+GROWTH = 4 << 10
 
 
 def tool(content: bytes = TWO, **more: Any) -> Package:

@@ -43,15 +43,17 @@ class KeptLinesTest(ModuleTest):
     def test_written(self) -> None:
         """Lines that were cut are not kept, and those of another form are a Fault."""
         lines = mock.Mock(fd=stream_of(*SOUND), is_cut=False, others={})
-        comparison: Any = mock.Mock(known_lines=lambda: lines, doubts=[])
+        comparison: Any = mock.Mock(known_lines=lambda: lines)
         target = in_memory(b"")
-        counts = write_kept(target, comparison, ROOM)
+        counts = write_kept(target, comparison, ROOM).standings
         self.assertEqual(counts and counts.open, 2)
         self.assertEqual(read_bytes(os.pread(target, ROOM, 0)), ["/srv/a", "/srv/b"])
         lines.fd = in_memory(b'{"format":4,"old":"o","new":"n"}\n')
         self.fails(18, "are not understood", write_kept, target, comparison, ROOM)
         lines.is_cut = True
-        self.assertIsNone(write_kept(target, comparison, ROOM))
+        judgement = write_kept(target, comparison, ROOM)
+        self.assertIsNone(judgement.standings)
+        self.assertEqual(judgement.doubts, ["the changes are too many to be judged"])
 
     def test_room(self) -> None:
         """Whatever pieces the lines come in, and wherever the limit is, what is kept is a stream

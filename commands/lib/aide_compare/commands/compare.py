@@ -133,10 +133,11 @@ class Printer:
                     line += f", SHA-256 {copy.sha256}"
                 text += f"aide-compare: {line}\n"
             is_brief = self.form == BRIEF and judged is not None
-            if comparison.standings and not (is_brief and os.isatty(1)):
-                text += f"aide-compare: {comparison.standings.words()}\n"
-            if comparison.standings and comparison.standings.left_out and not is_brief:
-                text += f"aide-compare: {comparison.standings.left_out_words()}\n"
+            counts = comparison.judgement.standings
+            if counts and not (is_brief and os.isatty(1)):
+                text += f"aide-compare: {counts.words()}\n"
+            if counts and counts.left_out and not is_brief:
+                text += f"aide-compare: {counts.left_out_words()}\n"
         yield encoded(text)
 
     def _notes_of_list(self, comparison: Comparison, judged: Judged) -> Iterator[str]:
@@ -147,7 +148,7 @@ class Printer:
             return
         for pattern in dict.fromkeys(self.patterns):
             numbers = exclusions.numbers_of(pattern)
-            if not any(comparison.left_out.get(number) for number in numbers):
+            if not any(comparison.judgement.left_out.get(number) for number in numbers):
                 yield f"--exclude {shown(pattern, 200)} leaves out no change{hint_for(pattern)}"
         if self.request.is_verbose:
             from aide_compare.show.not_left_out import Reasons

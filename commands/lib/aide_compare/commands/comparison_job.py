@@ -12,7 +12,7 @@ from aide_compare.base.program import is_for_looking
 from aide_compare.base.replacement import ANYBODY_READS, remove, replace
 from aide_compare.base.rights import become_owner
 from aide_compare.commands.compare_request import CompareRequest
-from aide_compare.compare.comparison import Comparison, ComparisonInput
+from aide_compare.compare.comparison import Comparison, ComparisonInput, Judgement
 from aide_compare.compare.history import keep_night
 from aide_compare.compare.outputs import Output, descriptor_of, file_output, open_output
 from aide_compare.compare.state import failed_state, parse_state, read_state
@@ -171,7 +171,7 @@ class ComparisonJob:
         """Judges a comparison, makes all outputs, and then hands them to their places in their
         order."""
         if self.outputs.judges and comparison.status == 0:
-            comparison.standings = Counts()
+            comparison.judgement = Judgement(Counts())
         elif self.outputs.judges and comparison.differs:
             # The modules for it are more than all others together.
             from aide_compare.show.judgement import judge

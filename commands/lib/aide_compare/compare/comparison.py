@@ -61,8 +61,18 @@ class Lines(NamedTuple):
     others: Others = NO_OTHERS
 
 
+class Judgement(NamedTuple):
+    """What the changes mean together."""
+
+    standings: Counts | None = None  # None if nobody has judged them.
+    doubts: Sequence[str] = ()  # What was not judged, and why.
+    # How many of them the lines of the list leave out, by their numbers.
+    left_out: Mapping[int, int] = MappingProxyType({})
+
+
 class Comparison:
-    """A comparison: what is known of it so far, and then what came out of it."""
+    """A comparison: what is known of it so far, and then what came out of it. Only compare/work.py
+    fills it; the judgement is a value of its own."""
 
     def __init__(self, request: ComparisonInput) -> None:
         self.request = request
@@ -73,15 +83,12 @@ class Comparison:
         self.errors = b""  # The error lines of the program.
         self.hints: Sequence[str] = ()  # What explains them.
         self.notes: list[str] = []  # What was not compared, or not as it was meant.
-        self.doubts: list[str] = []  # What was not judged.
         self.warnings: list[str] = []  # What is mailed even if nothing differs.
         # By side, as far as it is known:
         self.copies: dict[str, Copy] = {}
         self.skipped: Mapping[str, Sequence[str]] = {}  # Columns.
         self.lines: Lines | None = None  # None if nothing was compared.
-        self.standings: Counts | None = None  # None if nobody has judged the changes.
-        # How many changes the lines of the list leave out, by their numbers.
-        self.left_out: Mapping[int, int] = {}
+        self.judgement = Judgement()
 
     @property
     def differs(self) -> bool:
@@ -138,7 +145,7 @@ class Comparison:
         for side, columns in self.skipped.items():
             values[f"skipped_{side}"] = list(columns)
         if self.lines and not self.has_failed:
-            values.update(zip(KINDS, self.lines.end.kinds), standings=self.standings)
+            values.update(zip(KINDS, self.lines.end.kinds), standings=self.judgement.standings)
         return State(self.status, self.time, error=self._first_error()[:MAX_ERROR], **values)
 
     def _first_error(self) -> str:

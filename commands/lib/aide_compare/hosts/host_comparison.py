@@ -119,14 +119,12 @@ def run_comparison(directory: HostDirectory, run: HostsRun, part: NewFile) -> Co
 
 
 def keep_findings(directory: HostDirectory, run: HostsRun, comparison: Comparison) -> None:
-    """Keeps the changes that are not silent. The comparison gets their standings."""
+    """Keeps the changes that are not silent. The comparison gets its judgement."""
     with closing(NewFile(directory.fd)) as part:
         limit = min(run.max_kept, directory.room(run.request.jobs))
-        comparison.standings = write_kept(part.fd, comparison, limit)
-        if comparison.standings:
+        comparison.judgement = write_kept(part.fd, comparison, limit)
+        if comparison.judgement.standings:
             part.put(LINES)
-        else:
-            comparison.doubts.append("the changes are too many to be judged")
 
 
 def age_fault(directory: HostDirectory, run: HostsRun) -> str:

@@ -15,8 +15,7 @@ from collections.abc import Iterator
 from aide_compare.base.ending import DeviceFault, write_blocks
 from aide_compare.changes.judged import Judged
 from aide_compare.changes.table import ORDER
-from aide_compare.compare.comparison import Comparison
-from aide_compare.lines.change import Counts
+from aide_compare.compare.comparison import Comparison, Judgement
 from aide_compare.lines.reader import COUNTS_OF_END, Refused, reader_over
 from aide_compare.show.digest import rooms_of
 from aide_compare.show.json_lines import line_of
@@ -57,16 +56,15 @@ def end_line(judged: Judged, counted: Counter[str]) -> bytes:
     return line_of({**fields, "standings": judged.counts._asdict()})
 
 
-def write_kept(target: int, comparison: Comparison, limit: int) -> Counts | None:
-    """Writes the lines of a comparison to a file. None, and then no line, if they were cut
-    before."""
+def write_kept(target: int, comparison: Comparison, limit: int) -> Judgement:
+    """Writes the lines of a comparison to a file, and returns what they mean. There is no line, and
+    they are not judged, if they were cut before."""
     lines = comparison.known_lines()
     if lines.is_cut:
-        return None
+        return Judgement(doubts=["the changes are too many to be judged"])
     try:
         judged = Judged(reader_over(lines.fd), lines.others)
     except Refused as refused:
         raise DeviceFault(f"the lines of aide_lines are not understood: {refused}")
-    comparison.doubts += judged.doubts()
     write_blocks(target, kept_lines(judged, limit))
-    return judged.counts
+    return Judgement(judged.counts, list(judged.doubts()))

@@ -17,7 +17,7 @@ def _notes_of(comparison: Comparison, verbose: bool) -> list[str]:
     notes = list(comparison.notes)
     exclusions = comparison.request.exclusions
     if verbose and exclusions:
-        for number, count in sorted(comparison.left_out.items()):
+        for number, count in sorted(comparison.judgement.left_out.items()):
             words = exclusions.lines[number - 1].words()
             notes.append(f"left out by {words}: {counted(count, 'change')}")
     return notes
@@ -52,7 +52,7 @@ def told_of(comparison: Comparison, quiet: bool = False, verbose: bool = False) 
     """The lines beside a report: notes, what the program says, and what is not silent. If nothing
     was compared, the cause comes first, and notes only with `verbose`. With `quiet` there are no
     notes, and what the program says only then."""
-    hints = _ours([*comparison.hints, *comparison.doubts, *comparison.warnings])
+    hints = _ours([*comparison.hints, *comparison.judgement.doubts, *comparison.warnings])
     if comparison.has_failed:
         lines = [*_ours(_faults_of(comparison)), *_errors_of(comparison), *hints]
         if verbose and not quiet:

@@ -225,7 +225,7 @@ def changes_in_order(judged: Judged) -> Iterator[tuple[Fields, Marks]]:
 def heading_of(comparison: Comparison, rows: PageRows, title: str) -> Fields:
     """What stands above the changes of a comparison."""
     end = comparison.known_lines().end
-    counts = comparison.standings or Counts()
+    counts = comparison.judgement.standings or Counts()
     words = {word.replace("_", " "): number for word, number in counts.numbers().items()}
     words.update(zip(KINDS, end.kinds))
     databases = []
@@ -235,7 +235,7 @@ def heading_of(comparison: Comparison, rows: PageRows, title: str) -> Fields:
         name = shown(copy.name, MAX_PATH_TEXT)
         databases.append({"side": side, "name": name, "time": time, "sha256": copy.sha256})
     remarks = rows.remarks()
-    notes = [*comparison.doubts, *comparison.notes]
+    notes = [*comparison.judgement.doubts, *comparison.notes]
     remarks += [guarded(capitalized(note)) for note in notes[:MAX_NOTES]]
     total = f"{end.total:,} in the new database"
     return {
