@@ -18,6 +18,8 @@ from aide_compare.show import entry
 
 ESCAPED: tuple[tuple[str | bytes, str], ...] = (
     (b"a b", "a b"),
+    (b"a\\b", r"a\134b"),
+    ("a\\b", r"a\134b"),
     (b"\n\x1b\x7f\\", r"\012\033\177\134"),
     (b"\x80\xff\xc3", r"\200\377\303"),
     ("é\U0001f600", "é\U0001f600"),
