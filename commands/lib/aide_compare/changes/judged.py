@@ -129,7 +129,7 @@ class Judged:
 
     @cached_property
     def counts(self) -> Counts:
-        """The counts of all. They are recordable for when the changes are grouped."""
+        """The counts of all, which are counted when the changes are grouped."""
         numbers = Counter(self.silent_beyond)
         for silent in SILENT:
             numbers[silent.key] += self._standings.count(STANDINGS.index(silent))

@@ -81,7 +81,7 @@ def ask_for_changes(
 def ask_for_lines(
     texts: ConfigurationTexts, databases: Mapping[str, int], without: bytes, take: Taker
 ) -> Answer:
-    """AnyRequest for the lines of the changes. Each has the rights of both sides, and the attributes that
+    """Asks for the lines of the changes. Each has the rights of both sides, and the attributes that
     the texts force themselves. `without`: the list of what is left out."""
     program = find_installed(LINES_PROGRAM)
     forced = set(RIGHTS)
