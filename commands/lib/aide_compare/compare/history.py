@@ -36,7 +36,7 @@ def nights_of(state_path: str) -> list[State]:
     return nights[-MAX_NIGHTS:]
 
 
-def nameless(state: State) -> State:
+def without_names(state: State) -> State:
     """What is kept of a night: no names, and the beginning of an error."""
     return state._replace(
         old="",
@@ -60,6 +60,6 @@ def keep_night(state_path: str, state: State) -> None:
     nights = nights_of(state_path)
     if nights and is_same_night(nights[-1], state):
         nights.pop()
-    nights = [*nights, nameless(state)][-MAX_NIGHTS:]
+    nights = [*nights, without_names(state)][-MAX_NIGHTS:]
     text = b"".join(night.text() for night in nights)
     replace(history_path(state_path), text, what="the history", makes_directory=False)

@@ -10,10 +10,9 @@ from aide_compare.changes.judged import Judged
 from aide_compare.lines.change import Counts, Standing
 from aide_compare.show.digest import SCREEN, Room, entry_line, in_directory, open_lines
 from aide_compare.show.entry import entry_words
-from aide_compare.show.groups import group_lines
+from aide_compare.show.groups import MAX_PACKAGE_NAME, group_lines
 
 WIDTH = 100  # Of lines with names, if lines have no limit.
-MAX_PACKAGE_NAME = 40
 MIN_NAME = 3  # With the comma and the blank behind it.
 
 

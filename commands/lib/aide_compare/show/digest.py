@@ -9,7 +9,7 @@ beyond that comes after all others. What is not listed is counted.
 from __future__ import annotations
 
 import re
-from collections import Counter, defaultdict
+from collections import Counter
 from collections.abc import Callable, Iterable, Iterator, Sequence
 from itertools import chain, islice
 from typing import Any, NamedTuple
@@ -160,28 +160,34 @@ def open_lines(
 
 def chosen(table: Rows, level: int, owners: int, limit: int, room: Room) -> list[int]:
     """The places of the changes of a part that are listed, at most so many."""
-    # By whether a change comes later, and whether it is beyond the first of its directory.
-    kept: dict[tuple[bool, bool], list[int]] = defaultdict(list)
+    first: list[int] = []
+    more: list[int] = []  # Beyond the first ones of a directory.
+    later: list[int] = []  # Of users who have had their lines.
+    later_more: list[int] = []
     spent: Counter[object] = Counter()
     turns: Counter[object] = Counter()
     question = room.questions.in_order
     first_rows = table.ask(f"{question} limit {ENOUGH}", level, owners)
     others = islice(table.ask(question, level, owners), ENOUGH, None)
     for place, user, group in chain(first_rows, others):
-        if len(kept[False, False]) == limit:
+        if len(first) == limit:
             break
         # Not of root, and not of hosts.
         is_later = bool(user) and spent[user] >= room.user
         turn = (group, is_later)
-        is_full = is_later and len(kept[True, False]) == limit
+        is_full = is_later and len(later) == limit
         if is_full or turns[turn] == room.few[level]:
             continue
         turns[turn] += 1
         spent[user] += 1
-        part = kept[is_later, turns[turn] > room.first]
+        is_first = turns[turn] <= room.first
+        if is_later:
+            part = later if is_first else later_more
+        else:
+            part = first if is_first else more
         if len(part) < limit:
             part.append(place)
-    return [place for _, part in sorted(kept.items()) for place in part][:limit]
+    return [*first, *more, *later, *later_more][:limit]
 
 
 def rest_words(
