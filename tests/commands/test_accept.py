@@ -1,4 +1,4 @@
-"""aide-compare accept: by a digest, by an answer on a terminal, and but for what stays open."""
+"""aide-compare accept: by a digest, by an answer on a terminal, and except what stays open."""
 from __future__ import annotations
 
 import gzip
@@ -231,9 +231,9 @@ class AcceptPartlyTest(AcceptingTest):
     def test_open(self) -> None:
         """An added, a removed and a changed path stay open; all else is accepted. Once more,
         nothing changes."""
-        entries = b"it contains the new entries, but for what stays open the former ones: "
+        entries = b"it contains the new entries, and of what stays open the former ones: "
         counts = entries + b"1 added, 1 removed, 1 changed\n"
-        told = [b"now, but for what stays open: ", sha256(KEPT).encode(), counts]
+        told = [b"now, except what stays open: ", sha256(KEPT).encode(), counts]
         for owner in (None, NOBODY):
             with self.subTest(owner=owner):
                 if owner:
@@ -245,7 +245,7 @@ class AcceptPartlyTest(AcceptingTest):
                 self.assertEqual(self.read(BASE + "aide.db")[:8], b"\x1f\x8b\x08" + bytes(5))
                 words = (*([] if owner is None else ["--user", "nobody"]), *FILES[::-1])
                 self.answered(7, b"  added    /a: ", b"3 open of 3 changes", "aide-compare", *words)
-                self.accepts(b"the baseline already, but for what stays open", sha256(NEW), *OPEN)
+                self.accepts(b"the baseline already, except what stays open", sha256(NEW), *OPEN)
                 self.assertEqual(contents(self), (KEPT, OLD, NEW, 3), "nothing changes")
                 self.accepts(b"the baseline now: ")
                 self.assertEqual(contents(self), (NEW, KEPT, NEW, 3), "then the rest")
@@ -256,7 +256,7 @@ class AcceptPartlyTest(AcceptingTest):
         for line in (b"\n", b"  \t \n", b"# a comment\n"):
             new = NEW.replace(b"/c 36", line + b"/c 36")
             self.put(OLD.replace(b"/c 36", line + b"/c 36"), new)
-            self.accepts(b"but for what stays open", sha256(new), *OPEN)
+            self.accepts(b"except what stays open", sha256(new), *OPEN)
             found = self.read(BASE + "aide.db")  # Plain as the new one.
             self.assertEqual([text for text in found.split(b"\n") if text[:1] == b"/"], wanted)
 

@@ -125,7 +125,11 @@ class NeverLeftOutTest(CommandTest):
     def test_directories(self) -> None:
         """Who may write one decides."""
         for old, new, reason in (
-            (Night(), Night().directory(b"/srv/d", 0o40777), b"others than its owner can write"),
+            (
+                Night(),
+                Night().directory(b"/srv/d", 0o40777),
+                b"users other than its owner can write",
+            ),
             (
                 Night().directory(b"/srv/d"),
                 Night().directory(b"/srv/d", uid=1000),

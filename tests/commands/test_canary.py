@@ -19,7 +19,7 @@ from aide_compare.hosts.report_values import Host
 from aide_compare.lines.change import Counts
 
 ONE, TWO, EVIL = b"one", b"two, of the upgraded package", b"EVIL"
-NOTE = "canary www1: what changed there in the same way is silent on the other hosts"
+NOTE = "canary www1: changes that it went through too are silent on the other hosts"
 USED = f"C{NOTE[1:]}\n"
 NAMES = ("www1", "www2", "www3", "www4")
 MARK = b"/usr/bin/mark"

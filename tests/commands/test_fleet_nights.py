@@ -100,7 +100,7 @@ class FleetNightsTest(CommandTest):
             fleet.accept(CANARY)
         fleet.send(NAMES, mark)
         self.assertEqual(fleet.night(), {EVIL: 1}, "those that lag are quiet")
-        self.assertIn("and was accepted, is silent", fleet.report().output_text.split("\n")[0])
+        self.assertIn(", which was accepted: changes", fleet.report().output_text.split("\n")[0])
         self.assertIn("www4", fleet.accept_silent())
         fleet.accept(EVIL)
         fleet.send(NAMES, mark)
@@ -138,7 +138,7 @@ class FleetNightsTest(CommandTest):
         fleet.compare(self.path("hosts"))
         fleet.list_hosts(*NAMES)
         report = fleet.report().output_text
-        self.assertIn("and was accepted, is silent", report, "after one host without a canary")
+        self.assertIn(", which was accepted: changes", report, "after one host without a canary")
         loud = {host: 4 for host in LATE}
         listed = self.path(f"store/hosts/{CANARY}/listed")
         for days in (8, -8):  # Or a clock was wrong.

@@ -117,7 +117,7 @@ class RecipesTest(MachineTest):
         self.write("/etc/aide-compare/without", "")  # The package brings this file.
         done = self.recipe("first")
         self.assertEqual((done.status, done.errors), (0, b""), done)
-        said = done.output.replace(b"a directory of root's", b"a directory of _aide's")
+        said = done.output.replace(b"of the user root: ", b"of the user _aide: ")
         return done._replace(output=said)
 
 

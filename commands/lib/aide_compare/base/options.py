@@ -112,7 +112,7 @@ CONFIG = Option(
 DATABASES = Option("--databases", "", "OLD NEW", kind=file_path, number_of_values=2)
 AFTER = Option(
     "--after",
-    "lines to read after the configuration, as report_level=summary",
+    "lines to read after the configuration, such as report_level=summary",
     "TEXT",
     kind=text_in_utf8,
     letter="-A",
@@ -138,7 +138,7 @@ MAX_SIZE = Option(
 # Of databases; a result has an age too, with an option of the same name.
 MAX_AGE = Option(
     "--max-age",
-    "refuse a new database that is older, as 50h, or from the future (0: no limit)",
+    "refuse a new database that is older than TIME, or from the future (0: no limit)",
     "TIME",
     kind=duration,
     default=0,
@@ -152,7 +152,7 @@ RESULT_AGE = Option(
 )
 EXCLUDE_FROM = Option(
     "--exclude-from",
-    "leave out the changes at the paths that FILE names, as the example debian.without",
+    "leave out the changes at the paths that FILE names, such as the example debian.without",
     "FILE",
     is_repeated=True,
 )
@@ -164,7 +164,7 @@ EXCLUDE = Option(
 )
 TRUSTED = Option(
     "--trusted",
-    "keep quiet about what changed on a trusted machine in the same way: its baseline and its new"
+    "keep quiet about changes that a trusted machine went through too: its old and its new"
     " database, whose changes you have read, or what aide-compare archive made",
     "OLD NEW",
     is_single=True,
@@ -172,7 +172,7 @@ TRUSTED = Option(
 )
 KEEP_OPEN = Option(
     "--keep-open",
-    "accept all but the changes of these paths, as '/etc/**'",
+    "accept all except the changes of these paths, such as '/etc/**'",
     "PATTERN",
     kind=pattern,
     is_repeated=True,
@@ -194,7 +194,7 @@ MAIL_TIME = Option(
 ATTACH_PAGE = Option("--attach-page", "attach the page with all values to the text")
 WEEKLY = Option(
     "--weekly",
-    "with --state: send a heartbeat on a day of the week, as Mon",
+    "with --state: send a heartbeat on a day of the week, such as Mon",
     "DAY",
     choices=DAYS,
 )

@@ -1,5 +1,5 @@
 """aide-compare accept: a database becomes the baseline if its SHA-256 is the one that was given;
-whole, or but for what stays open."""
+whole, or except what stays open."""
 from __future__ import annotations
 
 import gzip
@@ -205,7 +205,7 @@ def title_line(request: AcceptRequest, accepted: Accepted) -> str:
     line = f"{shown(request.new)} is the baseline "
     line += "now" if accepted.is_replaced else "already"
     if accepted.merged:
-        line += ", but for what stays open"
+        line += ", except what stays open"
     return f"{line}: {shown(request.baseline)}"
 
 
@@ -218,7 +218,7 @@ def lines_of(request: AcceptRequest, accepted: Accepted) -> Iterator[str]:
     if accepted.merged:
         kinds = words_of_kinds(accepted.merged.counts[kind] for kind in KINDS)
         yield (
-            f"baseline: SHA-256 {accepted.sha256}; it contains the new entries, but for what stays"
+            f"baseline: SHA-256 {accepted.sha256}; it contains the new entries, and of what stays"
             f" open the former ones: {kinds}"
         )
     former = accepted.former

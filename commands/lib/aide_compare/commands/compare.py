@@ -217,7 +217,7 @@ class CommandRequest(PrintRequest):
     )
     pattern: Pattern | None = option(
         "--only",
-        "print only the changes of these paths, as '/etc/**', with their values",
+        "print only the changes of these paths, such as '/etc/**', with their values",
         "PATTERN",
         kind=kinds.pattern,
         is_single=True,

@@ -93,7 +93,7 @@ class CompareRequest(Request):
 class PrintRequest(CompareRequest):
     """The same of a command that prints the comparison."""
 
-    is_quiet: bool = field(QUIET, help="print neither what differs nor most notes")
+    is_quiet: bool = field(QUIET, help="print no differences, and few notes")
     is_verbose: bool = field(VERBOSE)
     wants_report: bool = False
     pattern: Pattern | None = None  # Of the paths whose changes are printed, if not all are.

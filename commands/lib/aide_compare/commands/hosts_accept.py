@@ -60,7 +60,7 @@ class HostAcceptRequest(StoreRequest):
     )
     keep_open: Sequence[Pattern] = field(
         KEEP_OPEN,
-        help="all but the changes of these paths; see aide-compare accept",
+        help="all except the changes of these paths; see aide-compare accept",
     )
     host: str = field(Operand("HOST", f"its name for ssh; of --silent ({HOSTS_FILE})", "?", ""))
 
@@ -68,7 +68,7 @@ class HostAcceptRequest(StoreRequest):
         """Refuses what means nothing without another word, or with it."""
         if self.is_for_silent:
             if self.digest or self.keep_open:
-                raise usage_fault("--silent goes with neither --sha256 nor --keep-open")
+                raise usage_fault("--silent goes without --sha256 and --keep-open")
             return
         if not self.host:
             raise usage_fault("name a HOST, or give --silent for all whose changes are silent")

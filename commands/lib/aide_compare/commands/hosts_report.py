@@ -76,7 +76,7 @@ class ReportRequest(StoreRequest):
     mail_seconds: int = field(MAIL_TIME)
     weekly: str | None = field(
         WEEKLY,
-        help="with --to: send a heartbeat on a day of the week, as Mon, if there is nothing to"
+        help="with --to: send a heartbeat on a day of the week, such as Mon, if there is nothing to"
         " report",
     )
     hosts_file: str = field(HOSTS_OPERAND)

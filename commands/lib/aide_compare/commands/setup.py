@@ -133,7 +133,9 @@ class Machine:
                 status = os.fstat(file)
                 is_single = stat.S_ISREG(status.st_mode) and status.st_nlink == 1
                 if not is_single or status.st_uid not in (0, self.user.pw_uid):
-                    raise DeviceFault(f"{shown(path)} is no file of root's with one name")
+                    raise DeviceFault(
+                        f"{shown(path)} is not a regular file of root with one hard link"
+                    )
                 opened = reopened(file, os.O_RDONLY)
         with closed_after(opened):
             if not os.pread(opened, 10, 0).startswith(DATABASE_STARTS):
@@ -225,7 +227,7 @@ class Machine:
         title = f"options of each day: {PATHS.defaults}"
         asked = (self.request.address, self.needed)
         yield Step(title, has_options(*asked), partial(write_options, *asked))
-        title = f"a directory of {user}'s: {self.daily}"
+        title = f"a directory of the user {user}: {self.daily}"
         yield Step(title, self.owns(self.daily), self.make_directory)
         if self.is_debian and self.has_timer:
             title = f"upgrades to signed packages are silent: {PATHS.signed}"

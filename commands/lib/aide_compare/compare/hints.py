@@ -28,7 +28,7 @@ OTHER_ENDS = "its lines end in CR and LF: copy it byte by byte"
 CAUSES = {
     b"no @@end_db": ("it ends too early: was the disk full, or is AIDE still writing it?",),
     b"entry out of path order": (
-        "AIDE writes its databases in order, so one that comes straight from AIDE is damaged: "
+        "AIDE writes its databases in order, so a database straight from AIDE is damaged: "
         "make it anew",
         "if another tool wrote or merged it, aide-compare sort puts its entries in order; "
         "find out why if a path is there twice",

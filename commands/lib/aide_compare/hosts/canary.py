@@ -146,10 +146,10 @@ def words_on(state: State, listed: Set[tuple[str, str]]) -> str:
     before."""
     place, file = os.path.split(state.trusted_new)
     name = os.path.basename(place)
-    accepted = ", and was accepted," if file == BASELINE else ""
+    accepted = ", which was accepted" if file == BASELINE else ""
     if accepted or (name, state.trusted_new_sha256) in listed:
-        way = "what changed there in the same way"
-        return f"canary {name}: {way}{accepted} is silent on the other hosts"
+        what = "changes that it went through too are silent on the other hosts"
+        return f"canary {name}{accepted}: {what}"
     return f"canary {name}: {UNLISTED}"
 
 

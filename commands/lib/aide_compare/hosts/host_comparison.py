@@ -65,7 +65,7 @@ class HostsRequest(StoreRequest):
     no_fetch: bool = option("--no-fetch", "compare what was fetched before")
     canary: str | None = option(
         "--canary",
-        "compared first; what changed there in the same way is silent on all other hosts",
+        "compared first; changes that it went through too are silent on all other hosts",
         "HOST",
         kind=check_name,
     )

@@ -90,7 +90,7 @@ def _reason_of_directory(old: Rights | None, new: Rights | None) -> str:
     if old is not None and was_there and old.user != new.user:
         return "a directory with another owner"
     if new.permissions and new.permissions & WRITABLE:
-        return "a directory that others than its owner can write"
+        return "a directory that users other than its owner can write"
     return ""
 
 

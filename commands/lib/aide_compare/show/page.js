@@ -3,13 +3,13 @@
 const PAGE = 100, FEW = 3, PACKAGES = 4;
 const ORDERS = { importance: 'what matters most', size: 'change of size' };
 const TITLES = {
-  open: 'Open', recorded: 'Recorded', trusted: 'Trusted: changed in the same way in the trusted pair',
+  open: 'Open', recorded: 'Recorded', trusted: 'Trusted: the trusted pair went through the same change',
   'left out': 'Left out by a line of the list',
-  same: 'Same as before, but for times, inode, blocks, the size of a directory and a digest that one side lacks',
+  same: 'Same as before, except times, inode, blocks, the size of a directory and a digest that one side lacks',
 };
 const HINT = 'Open: all that is not one of the following. Recorded: a package\'s records on the host have this content. Whoever was '
-  + 'root there can write such records, so they only shorten what you read. Same: the old entry, but for times, inode, blocks, '
-  + 'the size of a directory and a digest that one side lacks. Trusted: it changed in the same way in the trusted pair. Left out: a line of the list names it.';
+  + 'root there can write such records, so they only shorten what you read. Same: the old entry, except times, inode, blocks, '
+  + 'the size of a directory and a digest that one side lacks. Trusted: the trusted pair went through the same change. Left out: a line of the list names it.';
 const find = (id) => document.getElementById(id), on = (target, event, act) => target.addEventListener(event, act);
 const number = new Intl.NumberFormat('en').format;
 const entriesOf = (count) => count === 1 ? '1 entry' : number(count) + ' entries';
