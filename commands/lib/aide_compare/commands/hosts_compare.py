@@ -28,7 +28,7 @@ each host as it ends: its name, its status and the counts. Then a summary.""",
     epilog="""\
 Status, the highest of all hosts: 0 nothing to read, 1 to 7 changes that are not
 silent, above 7 some host was not compared. 15 if arguments or a host's name are wrong, 17 if the
-list of what is left out is; 18 if the command itself fails.""",
+exclude list has an error; 18 if the command itself fails.""",
 )
 EMPTY = b"@@begin_db\n@@db_spec name\n@@end_db\n"
 

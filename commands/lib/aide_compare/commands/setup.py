@@ -43,8 +43,8 @@ from aide_compare.mail.waiting import troubles
 HELP = Help(
     name="aide-compare setup",
     description="""\
-Makes this machine ready for a comparison each day. Each step is printed before it is done, and all
-but the test mail are passed over if they are done already.""",
+Makes this machine ready for a comparison each day. Each step is printed before it is taken. What is
+done already is passed over, except the test mail.""",
     epilog="""\
 Status: 0 done, or nothing is missing; 15 bad arguments, or not root; 17 no two databases are
 named; 18 a step failed, or --check found something missing.""",
