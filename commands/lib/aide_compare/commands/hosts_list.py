@@ -16,7 +16,8 @@ HELP = Help(
     name="aide-compare hosts list",
     usage="%(prog)s [OPTIONS] [HOSTS-FILE | HOST]",
     description="""\
-Prints a line for each host of HOSTS-FILE, or for HOST: its name, its last status, and what it says.""",
+Prints a line for each host of HOSTS-FILE, or for HOST: its name, its last status, and the counts,
+or why it was not compared.""",
     epilog="""\
 Status: 0 listed, whatever the lines say; 15 bad arguments; 18 HOSTS-FILE cannot be read, or names
 none.""",
