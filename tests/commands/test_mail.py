@@ -153,7 +153,9 @@ class TextsTest(MailTest):
         self.set_names("commands.mail", MAX_PAGE=9000)
         message = self.mail("--attach-page", "old.db", "new.db")
         assert message is not None
-        self.assertIn(b'"remarks":["0 of 4 changes', body(message.get_payload()[1]))
+        self.assertIn(
+            b'"is_whole":false,"remarks":["0 of 4 changes', body(message.get_payload()[1])
+        )
         self.patch("show.page.heading_of", mock.Mock(side_effect=OSError(28, "no room")))
         text = body(self.mail("--attach-page", "old.db", "new.db"))
         said = "there is no page: no room"

@@ -174,6 +174,7 @@ class WithoutTest(CommandTest):
         page = self.call("aide-compare page", *words).output
         self.assertEqual(page.lower().count(said), 1, "as long as no script has run")
         self.assertIn(b'["left out",2]', page)
+        self.assertIn(b'"is_whole":true', page, "then buttons have it")
         self.write("same.db", self.read("o.db"))
         answer = self.call("aide-compare", "--exclude", "/var/log/**", "o.db", "same.db")
         self.expect("nothing differs", answer, 0, b"no differences in 4 entries\n")
