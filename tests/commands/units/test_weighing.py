@@ -13,7 +13,7 @@ from aide_compare.changes import weighing
 from aide_compare.changes.weighing import MAX_LINE, Weight, Weights, directory_of, group_of_owner
 from aide_compare.changes.weighing import is_content, weight_of, user_number
 from aide_compare.lines.change import change_line, change_of
-from aide_compare.lines.rights import differing, rights_of
+from aide_compare.lines.rights import differing, is_access_list, rights_of
 
 SAME = "f...........H....."
 PATH = "/srv/x"
@@ -127,6 +127,19 @@ class WeighingTest(ModuleTest):
         self.assertIn("Type", one.new, "a type that only one side has")
         for odd in ({**fields_of(old=OLD, new=NEW), "summary": "f"}, {"kind": "changed"}):
             self.assertEqual(differing(odd), odd)
+
+    def test_access_lists(self) -> None:
+        """A list that says no more than a mode gives no right; one that is not understood may."""
+        mode = b"POSIX,dXNlcjo6cnctCmdyb3VwOjpyLS0Kb3RoZXI6OnItLQo=,0"
+        for field, gives in (
+            (mode, False),
+            (b"POSIX,0,0", False),
+            (mode.replace(b",0", b",eA=="), True),
+            (b"POSIX,dXNlcjo6cnctCnVzZXI6NDI0Mjpyd3gK,0", True),
+            (b"POSIX,dXNlcjo6cn,0", True),
+            (b"NFS4,0,0", True),
+        ):
+            self.gives(gives, is_access_list, field)
 
     def test_places(self) -> None:
         """Whose an entry is, as far as its number says it, and in which directory it is."""
