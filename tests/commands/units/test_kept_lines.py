@@ -15,6 +15,7 @@ from tests.oracle.database import LINE_LIMIT
 from aide_compare.base.ending import Fault
 from aide_compare.base.files import in_memory
 from aide_compare.base.paths import path_of
+from aide_compare.changes import judged as judging
 from aide_compare.changes.judged import Judged
 from aide_compare.compare.line_room import LineRoom
 from aide_compare.compare.state import State
@@ -147,6 +148,24 @@ class KeptLinesTest(ModuleTest):
         self.assertEqual(judged.left_out, {2: 1, 3: 2})
         counts = judged.counts
         self.assertEqual((counts.same, counts.trusted, counts.left_out, counts.open), (1, 1, 3, 3))
+
+    def test_members(self) -> None:
+        """Of directories with another number of links some are noted, each with the first one in
+        it that came or went, and that a list leaves out."""
+        left_out: dict[str, Any] = {"type": "Directory", "left_out": 1}
+        links: dict[str, Any] = {"old": {"Linkcount": 2}, "new": {"Linkcount": 3}}
+        changes = [fields_of(path, "changed", type="Directory", **links) for path in ("/a", "/b")]
+        changes += [
+            fields_of("/a/b", "changed", **left_out),
+            fields_of("/a/c", left_out=1),
+            fields_of("/a/d", **left_out),
+            fields_of("/a/e", **left_out),
+        ]
+        noted = {b"/a": "added d (left out)", b"/b": ""}
+        for limit in (9, 2, 1):
+            with mock.patch.object(judging, "MAX_MEMBERS", limit):
+                found = Judged(reader_over(stream_of(*changes))).members
+            self.expect(f"at most {limit}", found, dict([*noted.items()][:limit]))
 
     def test_sites(self) -> None:
         """Each change is in its own directory, also behind others of the same form."""
