@@ -7,6 +7,9 @@ ghost use Rattle.aide_entry.specs.Text.{is_blank};
 
 use std::simd::prelude::*;
 
+// ---- single operations, each with what it does lane by lane or bit by bit, so that the proofs of their callers read
+// clauses in place of code
+
 fn next_lanes(line: &[u8], at: usize) -> u8x32
     requires { at + 32 ≤ length line.now }
     ensures { HasLanes result (λ k. slice_index line.now (at + k)) }
@@ -33,6 +36,25 @@ fn high_lanes(v: u8x32) -> u64
     v.simd_ge(u8x32::splat(128)).to_bitmask()
 }
 
+/// Moves bits up by this distance. All of them are among the lowest 32 before.
+fn bits_shifted(bits: u64, distance: usize) -> u64
+    requires few { distance ≤ 32 }
+    requires low { (k : ℕ) → bit_at bits k ≡ 1 → k < 32 }
+    ensures each { (k : ℕ) → bit_at result (k + distance) ≡ bit_at bits k }
+    ensures gone { (k : ℕ) → k < distance → bit_at result k ≡ 0 }
+{
+    bits << distance
+}
+
+/// Returns the bits that are set in one argument or the other.
+fn bits_either(a: u64, b: u64) -> u64
+    ensures { (k : ℕ) → bit_at result k ≡ max (bit_at a k) (bit_at b k) }
+{
+    a | b
+}
+
+// ---- the blanks
+
 /// Finds the blanks among 32 bytes: bit k is set if the byte at `at` + k is blank.
 pub fn blanks_at(line: &[u8], at: usize) -> u64
     requires { at + 32 ≤ length line.now }
@@ -57,23 +79,6 @@ pub fn blanks_of_both(line: &[u8], at: usize, later: usize) -> u64
 {
     let behind = bits_shifted(blanks_at(line, later), later - at);
     bits_either(blanks_at(line, at), behind)
-}
-
-/// Moves bits up by this distance. All of them are among the lowest 32 before.
-fn bits_shifted(bits: u64, distance: usize) -> u64
-    requires few { distance ≤ 32 }
-    requires low { (k : ℕ) → bit_at bits k ≡ 1 → k < 32 }
-    ensures each { (k : ℕ) → bit_at result (k + distance) ≡ bit_at bits k }
-    ensures gone { (k : ℕ) → k < distance → bit_at result k ≡ 0 }
-{
-    bits << distance
-}
-
-/// Returns the bits that are set in one argument or the other.
-fn bits_either(a: u64, b: u64) -> u64
-    ensures { (k : ℕ) → bit_at result k ≡ max (bit_at a k) (bit_at b k) }
-{
-    a | b
 }
 
 /// Returns the index of the lowest bit.

@@ -86,21 +86,15 @@ pub fn read_number(field: &[u8]) -> Option<i128>
 {
     let (first, digits) = field.split_first()?;
     if *first == b'-' {
-        match read_natural(digits) {
-            None => None,
-            Some(n) => {
-                if n <= 1 << 63 {
-                    Some(-i128::from(n))
-                } else {
-                    None
-                }
-            }
+        let n = read_natural(digits)?;
+        if n <= 1 << 63 {
+            Some(-i128::from(n))
+        } else {
+            None
         }
     } else {
-        match read_natural(field) {
-            None => None,
-            Some(n) => Some(i128::from(n)),
-        }
+        let n = read_natural(field)?;
+        Some(i128::from(n))
     }
 }
 
@@ -111,15 +105,10 @@ pub fn read_bits(field: &[u8]) -> Option<u64>
 {
     let (first, digits) = field.split_first()?;
     if *first == b'-' {
-        match read_natural(digits) {
-            None => None,
-            Some(n) => { if n == 0 { Some(0) } else { None } }
-        }
+        let n = read_natural(digits)?;
+        if n == 0 { Some(0) } else { None }
     } else {
-        match read_natural(field) {
-            None => None,
-            Some(n) => Some(n),
-        }
+        read_natural(field)
     }
 }
 

@@ -11,7 +11,7 @@ ghost use Rattle.aide_entry.specs.Numbers.{mode_of};
 ghost use Rattle.aide_entry.specs.Values.{is_nought, type_of_bits, type_of_mode, begins_number};
 ghost use Rattle.aide_entry.specs.Values.{time_of, digest_of, link_text};
 ghost use Rattle.aide_entry.specs.Values.{link_of, value_of, is_field};
-ghost use Rattle.aide_entry.specs.Attributes.{digest_in, number_of_type, is_different};
+ghost use Rattle.aide_entry.specs.Attributes.{digest_in, is_different};
 ghost use Rattle.aide_entry.specs.Lent.{IsDigest, lent_link, differs_by, same_number};
 ghost use Rattle.aide_entry.specs.Lent.{same_mode, same_type, same_link_name};
 
@@ -248,26 +248,11 @@ fn modes_differ(old: Option<u32>, new: Option<u32>) -> bool
     }
 }
 
-fn number_of_type(kind: FileType) -> u16
-    ensures { result ≡ number_of_type kind }
-{
-    match kind {
-        FileType::File => 0,
-        FileType::Directory => 1,
-        FileType::Link => 2,
-        FileType::Char => 3,
-        FileType::Block => 4,
-        FileType::Fifo => 5,
-        FileType::Socket => 6,
-        FileType::Other(bits) => 7 + u16::from(bits),
-    }
-}
-
 fn types_differ(old: Option<FileType>, new: Option<FileType>) -> bool
     ensures { result ≡ differs_by same_type old new }
 {
     match (old, new) {
-        (Some(x), Some(y)) => number_of_type(x) != number_of_type(y),
+        (Some(x), Some(y)) => x != y,
         _ => false,
     }
 }
