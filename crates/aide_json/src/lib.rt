@@ -7,6 +7,7 @@ mod comma;
 mod escaped;
 mod member;
 mod number;
+mod plain;
 mod spelling;
 mod string;
 mod utf8;

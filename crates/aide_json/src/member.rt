@@ -8,6 +8,7 @@ ghost use Rattle.aide_text.specs.PenSheet.{on_sheet};
 ghost use Rattle.aide_text.specs.Sheet.{Wrote};
 
 use crate::number::{put_count, put_integer};
+use crate::plain::plain_text;
 use crate::string::{put_hex, put_quoted, put_string};
 use crate::utf8::is_utf8;
 use aide_text::{Feed, Pen, Sink, put};
@@ -33,12 +34,15 @@ fn put_hex_name<W: Sink>(out: &mut W, pen: &mut Pen, name: &[u8])
 }
 
 /// Writes a member whose value is any text: a string if the text is UTF-8. Otherwise `_hex` is added to the name, and
-/// the value is the text's bytes in base 16.
+/// the value is the text's bytes in base 16. A plain text that is short is written at once.
 pub fn put_text_member<W: Sink, B: Feed + Copy>(out: &mut W, pen: &mut Pen, name: &[u8], text: B)
     ensures { Wrote (text_member name.now (B.rest text)) (on_sheet W.Sink out.old pen.old)
         (on_sheet W.Sink out.new pen.new) }
 {
-    if is_utf8(text) {
+    let mut room = [0; 128];
+    if let Some(len) = plain_text(text, &mut room) {
+        put_word_member(out, pen, name, &room[..len]);
+    } else if is_utf8(text) {
         put_name(out, pen, name);
         put_string(out, pen, text);
     } else {
