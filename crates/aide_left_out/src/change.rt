@@ -4,7 +4,7 @@ ghost use Rattle.aide_entry.specs.View.{entry_in};
 ghost use Rattle.aide_agreement.specs.Found.{found};
 ghost use Rattle.aide_patterns.specs.Line.{RuleText};
 ghost use Rattle.aide_left_out.specs.LeftOut.{has_entry, has_program, is_harmless_if, left_out};
-ghost use Rattle.aide_left_out.specs.LeftOut.{may_go, path_of};
+ghost use Rattle.aide_left_out.specs.LeftOut.{line_at, may_go, path_of};
 ghost use Rattle.aide_left_out.specs.Meaning.{GivesRight, IsLeftOut};
 
 use crate::entry::{is_harmless, is_of_program};
@@ -66,8 +66,29 @@ fn may_go(
         && !opens_directory(old_one, new_one)
 }
 
-/// Returns the line of a list that leaves out the change at the path of an entry. Most paths are named by no line, so
-/// the list is asked first.
+/// Returns the line of a list that names the path of an entry, and that names programs if one of two entries is that of
+/// a program. Most paths are named by no line, so the list is asked first.
+fn line_of_path(
+    list: &Exclusions<'_>,
+    named: &View<'_>,
+    old_one: Option<View<'_>>,
+    new_one: Option<View<'_>>,
+    room: &mut [u8; 3839],
+) -> Option<u64>
+    ensures { result ≡ line_at list.now (entry_in named.now).0
+        (has_program (found old_one.entry) || has_program (found new_one.entry)) }
+{
+    let Some(line) = line_at(list, named, false, room) else {
+        return None;
+    };
+    if have_program(old_one, new_one) {
+        line_at(list, named, true, room)
+    } else {
+        Some(line)
+    }
+}
+
+/// Returns the line of a list that leaves out the change at the path of an entry.
 fn left_out_at(
     list: &Exclusions<'_>,
     measures: Measures,
@@ -80,8 +101,7 @@ fn left_out_at(
     ensures { result ≡ left_out list.now measures (entry_in named.now).0
         (found old_one.entry, found new_one.entry) }
 {
-    let is_program = have_program(old_one, new_one);
-    let Some(line) = line_at(list, named, is_program, room) else {
+    let Some(line) = line_of_path(list, named, old_one, new_one, room) else {
         return None;
     };
     if may_go(measures, named, old_one, new_one) {
@@ -91,7 +111,8 @@ fn left_out_at(
     }
 }
 
-/// Returns the line of a list that leaves out a change, by what two databases have at its path.
+/// Returns the line of a list that leaves out a change, by what two databases have at its path. Nothing is asked of an
+/// empty list.
 fn line_of_change(
     list: &Exclusions<'_>,
     measures: Measures,
@@ -102,6 +123,9 @@ fn line_of_change(
     ensures { result ≡ left_out list.now measures (path_of old_one.entry new_one.entry)
         (found old_one.entry, found new_one.entry) }
 {
+    if list.is_empty() {
+        return None;
+    }
     match old_one {
         Some(view) => left_out_at(list, measures, &view, old_one, new_one, room),
         None => match new_one {

@@ -1,7 +1,6 @@
-use Rattle.std.proofs.Common.{◌∙◌, sym, ap, rules}
+use Rattle.std.proofs.Common.{◌∙◌, sym, rules}
 use Rattle.aide_entry.specs.View.{entry_in}
 use Rattle.aide_agreement.specs.Found.{found}
-use Rattle.aide_left_out.specs.LeftOut.{line_at}
 use Rattle.aide_left_out.proofs.ChangeLemmas.{line_goes, line_stays, no_line}
 use Rattle.aide_left_out.proofs.change.left_out_at.Goals as goal
 
@@ -11,9 +10,7 @@ returns-in_default c = search (rules, no_line)
 pub returns-then-may_go : goal.returns-then-may_go
 returns-then-may_go c =
     line_goes c.args.list.now c.args.measures (entry_in c.args.named.now).0 (found c.args.old_one, found c.args.new_one)
-    c.in-Some.line c.requires c.if-may_go.ensures
-    (ap (line_at c.args.list.now (entry_in c.args.named.now).0) (sym c.have_program-is_program.ensures)
-    ∙ (sym c.line_at.ensures ∙ c.in-Some.is))
+    c.in-Some.line c.requires c.if-may_go.ensures (sym c.line_of_path.ensures ∙ c.in-Some.is)
 
 pub returns-else-may_go : goal.returns-else-may_go
 returns-else-may_go c = search (rules, line_stays)
