@@ -1,7 +1,7 @@
 //! A sink that gathers small pieces.
 ghost use Rattle.std.specs.Prelude.{◌≡◌, ◌==◌, ◌&&◌, ◌<◌, ◌≤◌, ℕ, List, [], length, drop, take};
 ghost use Rattle.std.specs.Prelude.{IfOk, OnOk, Bool};
-ghost use Rattle.std.specs.Io.KnownBytes.{Appends, Keeps, append_known};
+ghost use Rattle.std.specs.Io.KnownBytes.{Appends, Keeps, WriteAppends, append_known};
 ghost use Rattle.aide_text.specs.Failures.{CountsFault};
 ghost use Rattle.aide_site.specs.Page.{none_waits, known_of};
 
@@ -86,6 +86,7 @@ impl<W: Sink> PagedSink<W> {
     }
 
     /// Takes as many of the first bytes as fit on the page. Returns their number.
+    #[inline(always)]
     fn take(&mut self, bytes: &[u8]) -> usize
         requires some { 0 < length bytes.now }
         requires room { self.old.used < 32768 }
@@ -99,6 +100,23 @@ impl<W: Sink> PagedSink<W> {
         self.used += count;
         count
     }
+
+    /// Takes some of these bytes, which may find the page full. It is passed on then.
+    #[cold]
+    #[inline(never)]
+    fn take_late(&mut self, bytes: &[u8]) -> Result<usize, DeviceFault>
+        requires { 0 < length bytes.now }
+        ensures some { IfOk result (λ n. (0 < n) × (n ≤ length bytes.now)) }
+        ensures bytes { WriteAppends (known_of W.delivered self.old) (known_of W.delivered self.new)
+            result bytes.now }
+        ensures flushes { W.flushes self.new.sink ≡ W.flushes self.old.sink }
+        ensures fault { CountsFault (W.failures self.old.sink) (W.failures self.new.sink) result }
+    {
+        if self.used >= PAGE {
+            self.send()?;
+        }
+        Ok(self.take(bytes))
+    }
 }
 
 impl<W: Sink> Sink for PagedSink<W> {
@@ -110,9 +128,11 @@ impl<W: Sink> Sink for PagedSink<W> {
 
     ghost is_flushed = { λ s. W.is_flushed s.sink && none_waits s.waiting };
 
+    // Nearly every piece fits, and the compiler knows how long most of them are.
+    #[inline(always)]
     fn write(&mut self, bytes: &[u8]) -> Result<usize, DeviceFault> {
-        if self.used >= PAGE {
-            self.send()?;
+        if bytes.len() > PAGE - self.used {
+            return self.take_late(bytes);
         }
         Ok(self.take(bytes))
     }

@@ -7,6 +7,8 @@ use crate::sink::Sink;
 
 /// Writes all of these bytes. If the sink fails, the error is how many bytes were written: that many first bytes of the
 /// text, and fewer than all.
+// It is inlined where the pen's `put` is.
+#[inline(always)]
 pub fn emit<W: Sink>(out: &mut W, bytes: &[u8]) -> Result<(), u64>
     ensures ok { OnOk result (Appends (W.delivered out.old) (W.delivered out.new) bytes.now) }
     ensures fewer { IfErr result (λ n. n < length bytes.now) }

@@ -38,6 +38,8 @@ impl Pen {
 }
 
 /// Writes these bytes, and counts those that were written. A failure of the sink is noted in the pen.
+// Most texts are a few bytes, and the compiler knows how many: for these a call would take longer than the copy.
+#[inline(always)]
 pub fn put<W: Sink>(out: &mut W, pen: &mut Pen, bytes: &[u8])
     ensures { Wrote bytes.now (on_sheet W.Sink out.old pen.old) (on_sheet W.Sink out.new pen.new) }
 {
