@@ -44,10 +44,8 @@ pub fn field_under<'a>(
     ensures { option_copied result
         ≡ field_under (is_column wanted) (columns_in columns.now) (fields line.now) }
 {
-    match columns.index_of(wanted) {
-        None => None,
-        Some(index) => spans.field(line, index),
-    }
+    let index = columns.index_of(wanted)?;
+    spans.field(line, index)
 }
 
 /// Returns the field with the path of a line's entry, as it is written.

@@ -51,10 +51,8 @@ fn type_of_bits(bits: u32) -> Option<FileType>
 pub fn read_type(field: &[u8]) -> Option<FileType>
     ensures { result ≡ type_of_mode (mode_of field.now) }
 {
-    match read_mode(field) {
-        None => None,
-        Some(mode) => type_of_bits(mode / 4096 % 16),
-    }
+    let mode = read_mode(field)?;
+    type_of_bits(mode / 4096 % 16)
 }
 
 fn begins_number(field: &[u8]) -> bool
@@ -123,15 +121,11 @@ pub fn read_digest(
     requires { most ≤ 64 }
     ensures { IsDigest (digest_of least most field.now) result buffer.new }
 {
-    match tables.decode(field, buffer) {
-        None => None,
-        Some(len) => {
-            if len >= least as usize && len <= most as usize {
-                Some(len)
-            } else {
-                None
-            }
-        }
+    let len = tables.decode(field, buffer)?;
+    if len >= least as usize && len <= most as usize {
+        Some(len)
+    } else {
+        None
     }
 }
 

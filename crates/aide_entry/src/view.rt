@@ -155,14 +155,12 @@ impl<'a> View<'a> {
     pub fn number(&self, attr: Attr) -> Option<i128>
         ensures { result ≡ number_in ((entry_in self.now).1 attr) }
     {
-        let Some(field) = self.field_of(attr) else {
-            return None;
-        };
+        let field = self.field_of(attr)?;
         match attr.form() {
-            Form::Mode => match read_mode(field) {
-                None => None,
-                Some(mode) => Some(i128::from(mode % 4096)),
-            },
+            Form::Mode => {
+                let mode = read_mode(field)?;
+                Some(i128::from(mode % 4096))
+            }
             Form::Number => read_number(field),
             Form::Time => read_time(field),
             _ => None,
@@ -185,9 +183,7 @@ impl<'a> View<'a> {
     pub fn digest(&self, attr: Attr, buffer: &mut [u8; 64]) -> Option<usize>
         ensures { IsDigest (digest_in ((entry_in self.now).1 attr)) result buffer.new }
     {
-        let Some(field) = self.field_of(attr) else {
-            return None;
-        };
+        let field = self.field_of(attr)?;
         match attr.form() {
             Form::Digest(least, most) => read_digest(
                 &Base64Tables::new(),
@@ -206,10 +202,8 @@ impl<'a> View<'a> {
         ensures { option_copied result
             ≡ option_map (encode_of standard) (digest_in ((entry_in self.now).1 attr)) }
     {
-        match self.field_of(attr) {
-            None => None,
-            Some(field) => written_digest(attr.form(), field),
-        }
+        let field = self.field_of(attr)?;
+        written_digest(attr.form(), field)
     }
 
     /// Returns the bytes of an attribute whose bytes have no other meaning here, such as `acl`, as they are written,
@@ -217,9 +211,7 @@ impl<'a> View<'a> {
     pub fn field(&self, attr: Attr) -> Option<&'a [u8]>
         ensures { option_copied result ≡ opaque_in ((entry_in self.now).1 attr) }
     {
-        let Some(field) = self.field_of(attr) else {
-            return None;
-        };
+        let field = self.field_of(attr)?;
         match attr.form() {
             Form::Opaque => { if is_nought(field) { None } else { Some(field) } }
             _ => None,

@@ -78,9 +78,7 @@ fn line_of_path(
     ensures { result ≡ line_at list.now (entry_in named.now).0
         (has_program (found old_one.entry) || has_program (found new_one.entry)) }
 {
-    let Some(line) = line_at(list, named, false, room) else {
-        return None;
-    };
+    let line = line_at(list, named, false, room)?;
     if have_program(old_one, new_one) {
         line_at(list, named, true, room)
     } else {
@@ -101,9 +99,7 @@ fn left_out_at(
     ensures { result ≡ left_out list.now measures (entry_in named.now).0
         (found old_one.entry, found new_one.entry) }
 {
-    let Some(line) = line_of_path(list, named, old_one, new_one, room) else {
-        return None;
-    };
+    let line = line_of_path(list, named, old_one, new_one, room)?;
     if may_go(measures, named, old_one, new_one) {
         Some(line)
     } else {

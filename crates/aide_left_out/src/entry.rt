@@ -98,15 +98,11 @@ fn is_known(kind: FileType) -> bool
 pub(crate) fn mode_of(view: &View<'_>) -> Option<u16>
     ensures { result ≡ mode_in ((entry_in view.now).1 Perm) }
 {
-    match view.number(Attr::Perm) {
-        None => None,
-        Some(number) => {
-            if number >= 0 && number < 4096 {
-                Some(number as u16)
-            } else {
-                None
-            }
-        }
+    let number = view.number(Attr::Perm)?;
+    if number >= 0 && number < 4096 {
+        Some(number as u16)
+    } else {
+        None
     }
 }
 

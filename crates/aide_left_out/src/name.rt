@@ -63,10 +63,8 @@ pub(crate) fn line_at(
             None
         };
     }
-    match copy_path(path, room) {
-        None => None,
-        Some(size) => list.find(&room[..size], is_program),
-    }
+    let size = copy_path(path, room)?;
+    list.find(&room[..size], is_program)
 }
 
 /// The directory of the settings.
