@@ -18,4 +18,5 @@ pub use member::{
     put_text_member, put_word_member,
 };
 pub use number::put_count;
+pub use string::put_quoted;
 pub use utf8::is_utf8;

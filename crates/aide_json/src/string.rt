@@ -39,7 +39,7 @@ pub(crate) fn put_hex<W: Sink, B: Feed>(out: &mut W, pen: &mut Pen, text: B)
 }
 
 /// Writes a text that needs no escape, as a string.
-pub(crate) fn put_quoted<W: Sink>(out: &mut W, pen: &mut Pen, text: &[u8])
+pub fn put_quoted<W: Sink>(out: &mut W, pen: &mut Pen, text: &[u8])
     ensures { Wrote (quoted text.now) (on_sheet W.Sink out.old pen.old)
         (on_sheet W.Sink out.new pen.new) }
 {

@@ -1,25 +1,14 @@
 //! Writes a set of attributes as an array of their names.
 ghost use Rattle.std.specs.Prelude.{◌≡◌, true};
 ghost use Rattle.aide_attr.specs.Set.{has};
-ghost use Rattle.aide_json.specs.Json.{quoted};
 ghost use Rattle.aide_json.specs.code.Items.{items_from};
 ghost use Rattle.aide_line_text.specs.Settings.{attr_string, attrs_array};
 ghost use Rattle.aide_text.specs.PenSheet.{on_sheet};
 ghost use Rattle.aide_text.specs.Sheet.{Wrote};
 
 use aide_attr::{Attr, AttrSet};
-use aide_json::put_comma;
+use aide_json::{put_comma, put_quoted};
 use aide_text::{Pen, Sink, put};
-
-/// Writes a name that needs no escape, as a string.
-fn put_string<W: Sink>(out: &mut W, pen: &mut Pen, name: &[u8])
-    ensures { Wrote (quoted name.now) (on_sheet W.Sink out.old pen.old)
-        (on_sheet W.Sink out.new pen.new) }
-{
-    put(out, pen, b"\"");
-    put(out, pen, name);
-    put(out, pen, b"\"");
-}
 
 /// Writes the names of those of these attributes that are in the set, with commas between them.
 fn put_names<W: Sink>(out: &mut W, pen: &mut Pen, set: AttrSet, attrs: &[Attr])
@@ -30,7 +19,7 @@ fn put_names<W: Sink>(out: &mut W, pen: &mut Pen, set: AttrSet, attrs: &[Attr])
     for attr in attrs {
         if set.has(*attr) {
             put_comma(out, pen, first);
-            put_string(out, pen, attr.name());
+            put_quoted(out, pen, attr.name());
             first = false;
         }
     }

@@ -27,9 +27,9 @@ loop-attr-preserved g c =
           (drop_more attrs i Ftype (omega arith)) c.has.ensures (w.first-is ∙ behind_wanted first c.has.result w.if-has.true))
           c.loop-attr.invariant
           (subst (λ s. Wrote item before s)
-          (sym (ap (λ out. on_sheet g.W.Sink out c.if-has.pen) w.out-is ∙ ap (λ pen. on_sheet g.W.Sink w.put_string.new.out pen) w.pen-is))
+          (sym (ap (λ out. on_sheet g.W.Sink out c.if-has.pen) w.out-is ∙ ap (λ pen. on_sheet g.W.Sink w.put_quoted.new.out pen) w.pen-is))
           (wrote_as (item_wanted c.has.result first (attr_string attr) w.if-has.true)
-          (wrote_more w.put_comma.ensures (wrote_as (ap quoted w.name.ensures) w.put_string.ensures))))
+          (wrote_more w.put_comma.ensures (wrote_as (ap quoted w.name.ensures) w.put_quoted.ensures))))
       | else-has w ↦
           writing_more (items_more (has c.args.set) attr_string first c.has.result c.if-has.first (drop i attrs) attr (drop (i + 1) attrs)
           (drop_more attrs i Ftype (omega arith)) c.has.ensures (w.first-is ∙ behind_unwanted first c.has.result w.if-has.false))
