@@ -27,7 +27,7 @@ use Rattle.aide_merge.specs.declared.run_fault.RunFault.TheVariants.{Open, Datab
 use Rattle.aide_site.specs.Answer.{Named, asked_by, limits}
 use Rattle.aide_line_session.specs.LineAnswer.{ComparesForLines}
 use Rattle.aide_line_session.specs.LineAnswer.{BeginsOverTexts, LineAnswer, HasWritten, LineOutput, HasBegun, all_lines, line_answer}
-use Rattle.aide_line_session.specs.LineAnswer.{no_line}
+use Rattle.aide_line_session.specs.LineAnswer.{no_line, pair_fault_line, pair_fault_status}
 use Rattle.aide_line_session.specs.LineAnswer.{lines_at_fault, start_of_lines, trusted_of}
 use Rattle.aide_line_session.specs.LineEnds.{PairFailure, PairFailureCause, LineView, ComparesPairs}
 use Rattle.aide_line_session.specs.LineEnds.{EndsWithin, MeansOfPair, pair_failure_line}
@@ -37,9 +37,9 @@ use Rattle.aide_site.specs.Closing.{HasText}
 use Rattle.aide_site.specs.Ends.{HasFailed, Puts, Sinks, unopened, unread, unwritten}
 use Rattle.aide_site.specs.Files.{Files}
 use Rattle.aide_site.specs.Lines.{kind_line, outcome_lines, run_fault_line}
-use Rattle.aide_line_session.specs.TrustedLines.{pair_fault_line, pair_fault_status, trusted_fault_line, trusted_kind_line}
 use Rattle.aide_site.proofs.Endings.{never_true, rose_later, true_is_not_false}
 use Rattle.aide_site.proofs.PutLemmas.{put_as}
+use Rattle.aide_site.specs.declared.whose.Whose.TheVariants as whose
 use Rattle.aide_line_run.specs.BeforeFault.{AreBeforeFaults, FourTexts}
 use Rattle.aide_line_run.specs.Lines.{lines_of_texts}
 use Rattle.aide_line_run.specs.RunEnds.{AreAllSound, CutsFronts, CutsLines, RunsLines, SendsWholeOf, StopsForPair, answer_by}
@@ -105,7 +105,7 @@ module _ (a : LineAnswer) (named trusted : Named) (v : LineView) (before count :
 
   compared_hindered : (fault : RunFault) (old new : Option (List ℕ)) (status : ℕ) → v.files named.old_path ≡ Some old
       → v.files named.new_path ≡ Some new → status ≡ fault_status fault
-      → Puts (run_fault_line named.old_path named.new_path fault) v.sinks
+      → Puts (run_fault_line whose.Compared named.old_path named.new_path fault) v.sinks
       → MeansOfPair v.files named v.is_reliable v.course (Rose count v.site_after) (Rose v.out_before v.out_after) fault
       → IsHindered old new (Rose count v.site_after) (Rose v.out_before v.out_after) fault
       → Ended status
@@ -123,14 +123,14 @@ module _ (a : LineAnswer) (named trusted : Named) (v : LineView) (before count :
           rose_later before count v.site_after more failed.1,
         ),
       )
-      (put_as _ _ (ap (kind_line fault) failed.0) put)
+      (put_as _ _ (ap (kind_line whose.Compared fault) failed.0) put)
   compared_hindered (Changed side) old new status told_old told_new is put means hindered = absurd hindered
   compared_hindered (Write written) old new status told_old told_new is put means hindered =
       broken status (of_compared unwritten) is hindered put
 
   trusted_hindered : (fault : RunFault) (old new : Option (List ℕ)) (status : ℕ) → v.trusted_files trusted.old_path ≡ Some old
       → v.trusted_files trusted.new_path ≡ Some new → status ≡ fault_status fault
-      → Puts (trusted_fault_line trusted.old_path trusted.new_path fault) v.sinks
+      → Puts (run_fault_line whose.Trusted trusted.old_path trusted.new_path fault) v.sinks
       → MeansOfPair v.trusted_files trusted v.trusted_reliable v.trusted_course (Rose v.trusted_before v.trusted_after) ⊥ fault
       → IsHindered old new (Rose v.trusted_before v.trusted_after) ⊥ fault
       → Ended status
@@ -144,7 +144,7 @@ module _ (a : LineAnswer) (named trusted : Named) (v : LineView) (before count :
       let failed = read_failed fault.kind (Rose v.trusted_before v.trusted_after) means.cause.2 hindered.1 in
       broken status (trusted_unread fault) (is ∙ ap kind_status failed.0)
       (failed.0, (never_true v.trusted_reliable (λ reliable. means.reliable reliable failed.0), failed.1))
-      (put_as _ _ (ap (trusted_kind_line fault) failed.0) put)
+      (put_as _ _ (ap (kind_line whose.Trusted fault) failed.0) put)
   trusted_hindered (Changed side) old new status told_old told_new is put means hindered = absurd hindered
   trusted_hindered (Write written) old new status told_old told_new is put means hindered = absurd hindered
 

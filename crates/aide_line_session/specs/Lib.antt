@@ -5,5 +5,4 @@ pub mod LineEnds
 pub mod LineSession
 pub mod SettingsTold
 pub mod Trusted
-pub mod TrustedLines
 pub mod code

@@ -13,19 +13,22 @@ use Rattle.aide_patterns.specs.Line.{RuleText}
 use Rattle.aide_patterns.specs.List.{IsReading}
 use Rattle.aide_patterns.specs.declared.fault.ListFault.{ListFault}
 use Rattle.aide_merge.specs.Asked.{Asked}
+use Rattle.aide_merge.specs.FaultStatus.{fault_status}
 use Rattle.aide_merge.specs.Outcomes.{status_of}
 use Rattle.aide_merge.specs.RightAnswer.{Report}
 use Rattle.aide_site.specs.Answer.{Named, asked_by, limits}
 use Rattle.aide_site.specs.Files.{Files, is_too_large}
 use Rattle.aide_line_session.specs.GivenList.{list_line, list_of}
-use Rattle.aide_site.specs.Lines.{conf_line, outcome_lines, too_large_line, unread_line}
-use Rattle.aide_line_session.specs.TrustedLines.{pair_fault_line, pair_fault_status}
+use Rattle.aide_site.specs.Lines.{conf_line, outcome_lines, run_fault_line, too_large_line}
+use Rattle.aide_site.specs.Lines.{unread_line}
+use Rattle.aide_site.specs.declared.whose.Whose.TheVariants as whose
 use Rattle.aide_text.specs.Sent.{SendsPart}
 use Rattle.aide_line_run.specs.BeforeFault.{AreBeforeFaults, FourTexts}
 use Rattle.aide_line_run.specs.Lines.{BeginsLines}
 use Rattle.aide_line_run.specs.RunEnds.{RunsLines, changes_between, lines_before_last}
 use Rattle.aide_line_run.specs.Listed.{ListRead, leaves_between}
 use Rattle.aide_line_run.specs.declared.pair_fault.PairFault.{PairFault}
+use Rattle.aide_line_run.specs.declared.pair_fault.PairFault.TheVariants.{Compared, Trusted}
 use Rattle.aide_words.specs.LineJob.{LineJobText}
 
 -- the trusted pair's paths, which the arguments name
@@ -91,6 +94,19 @@ lines_at_fault list asked trusted (Some old) (Some new) (Some trusted_old) (Some
       trusted_new = trusted_new;
     })
 lines_at_fault list asked trusted _ _ _ _ = no_line
+
+-- the line for the fault that ended a run with a trusted pair, by the paths of both pairs
+abbrev pub pair_fault_line : (old_path new_path trusted_old trusted_new : List ℕ) → PairFault
+    → List ℕ
+pair_fault_line old_path new_path trusted_old trusted_new (Compared fault) =
+    run_fault_line whose.Compared old_path new_path fault
+pair_fault_line old_path new_path trusted_old trusted_new (Trusted fault) =
+    run_fault_line whose.Trusted trusted_old trusted_new fault
+
+-- the status of such a fault: the same as that of a run over only this pair
+abbrev pub pair_fault_status : PairFault → ℕ
+pair_fault_status (Compared fault) = fault_status fault
+pair_fault_status (Trusted fault) = fault_status fault
 
 -- The answer of a comparison with a trusted pair, by the paths of both pairs: what is written, or
 -- the line and the status of the fault. At a fault the output is `at_fault`.

@@ -24,16 +24,16 @@ use Rattle.aide_merge.specs.declared.outcome.Outcome.{Outcome}
 use Rattle.aide_merge.specs.declared.run_fault.RunFault.{RunFault}
 use Rattle.aide_merge.specs.declared.run_fault.RunFault.TheVariants.{Open, Database}
 use Rattle.aide_site.specs.Answer.{Named, asked_by, limits}
-use Rattle.aide_line_session.specs.LineAnswer.{LineAnswer, HasWritten, HasBegun, trusted_of}
+use Rattle.aide_line_session.specs.LineAnswer.{LineAnswer, HasWritten, HasBegun, pair_fault_line}
+use Rattle.aide_line_session.specs.LineAnswer.{pair_fault_status, trusted_of}
 use Rattle.aide_site.specs.Closing.{AreBothSound, Course, HasText, RunCause}
 use Rattle.aide_site.specs.Ends.{Failure, FailureCause, Puts, Sinks, failure_line}
 use Rattle.aide_site.specs.Files.{Files, IsLarge, is_too_large}
 use Rattle.aide_line_session.specs.GivenList.{IsList, IsListOf, list_line}
 use Rattle.aide_site.specs.Held.{HoldsWithin, most_held}
-use Rattle.aide_site.specs.Lines.{conf_line, memory_line, outcome_lines, too_large_line}
-use Rattle.aide_site.specs.Lines.{unread_line}
-use Rattle.aide_line_session.specs.TrustedLines.{pair_fault_line, pair_fault_status}
-use Rattle.aide_line_session.specs.TrustedLines.{trusted_database_line, trusted_open_line}
+use Rattle.aide_site.specs.Lines.{conf_line, database_line, memory_line, open_line, outcome_lines}
+use Rattle.aide_site.specs.Lines.{too_large_line, unread_line}
+use Rattle.aide_site.specs.declared.whose.Whose.TheVariants.{Trusted}
 use Rattle.aide_text.specs.Failures.{CountsFlush}
 use Rattle.aide_line_run.specs.BeforeFault.{AreBeforeFaults, FourTexts}
 use Rattle.aide_line_run.specs.Lines.{AreAllLines}
@@ -83,8 +83,8 @@ pub data PairFailure : Type 0 where
 abbrev pub pair_failure_line : (named trusted : Named) → PairFailure → List ℕ
 pair_failure_line named trusted (of_compared failure) = failure_line named failure
 pair_failure_line named trusted (trusted_unopened side) =
-    trusted_open_line side (by_side trusted.old_path trusted.new_path side)
-pair_failure_line named trusted (trusted_unread fault) = trusted_database_line fault
+    open_line Trusted side (by_side trusted.old_path trusted.new_path side)
+pair_failure_line named trusted (trusted_unread fault) = database_line Trusted fault
 
 -- the cause of a failure: the first site, the site of the trusted pair or the output has counted
 -- one

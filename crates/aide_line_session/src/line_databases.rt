@@ -13,7 +13,7 @@ ghost use Rattle.aide_line_run.specs.ListView.{list_read};
 ghost use Rattle.aide_line_run.specs.SamePair.{AreSamePair};
 
 use crate::as_line::AsLine;
-use crate::trusted_lines::{pair_status, put_pair_fault};
+use crate::pair_fault::{pair_status, put_pair_fault};
 use aide_conf::Task;
 use aide_db::{Desk, Side};
 use aide_line_run::{Tasks, TrustedPair, run_lines};

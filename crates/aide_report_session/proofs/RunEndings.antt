@@ -28,6 +28,7 @@ use Rattle.aide_site.specs.Ends.{Failure, failure_line, FailureCause, Ends}
 use Rattle.aide_site.specs.Ends.{unopened, unread}
 use Rattle.aide_site.specs.Lines.{open_line, database_line, kind_line, outcome_lines, run_fault_line}
 use Rattle.aide_report_session.specs.code.Premises.{ComparesSides}
+use Rattle.aide_site.specs.declared.whose.Whose.TheVariants.{Compared}
 use Rattle.aide_site.specs.Put.{Put}
 use Rattle.aide_site.proofs.Endings.{sinks, none_starts, never_true, true_is_not_false}
 
@@ -35,9 +36,9 @@ use Rattle.aide_site.proofs.Endings.{sinks, none_starts, never_true, true_is_not
 
 -- the line of a fault that is the answer
 abbrev right_line : Named → RunFault → List ℕ
-right_line named (Open side) = open_line side (by_side named.old_path named.new_path side)
-right_line named (Database fault) = database_line fault
-right_line named fault = run_fault_line named.old_path named.new_path fault
+right_line named (Open side) = open_line Compared side (by_side named.old_path named.new_path side)
+right_line named (Database fault) = database_line Compared fault
+right_line named fault = run_fault_line Compared named.old_path named.new_path fault
 
 -- the status of a fault that is the answer
 abbrev right_status : RunFault → ℕ
@@ -108,7 +109,7 @@ run_database : (side : Side) (line : ℕ) (kind : DbFaultKind) (r : Result Repor
     (reliable : Bool) (rose out : Type 0) (old new c d e f : Option (List ℕ)) (m n : ℕ)
     → SendsFront r c d → StopsFor r (IsHindered old new rose out) (Database (fault_at side line kind))
     → is_memory kind ≡ false → (kind ≡ db.Read → rose)
-    → (reliable ≡ true → kind ≡ db.Read → ⊥) → Put (kind_line (fault_at side line kind) kind) e f m n
+    → (reliable ≡ true → kind ≡ db.Read → ⊥) → Put (kind_line Compared (fault_at side line kind) kind) e f m n
     → Ends (answer_by named r) named (kind_status kind) (sinks c d e f m n) ((reliable ≡ false) × rose) out
 run_database side line db.Read r named reliable rose out old new c d e f m n front stops fed cause unfailed put =
     run_broken r named (unread (fault_at side line db.Read)) c d e f m n ((reliable ≡ false) × rose) out front
@@ -138,7 +139,7 @@ pub ends_fault : (fault : RunFault) (r : Result Report RunFault) (named : Named)
     → TellsSide (bytes_of Old) (is_missing Old) old → TellsSide (bytes_of New) (is_missing New) new
     → StopsFor r (IsHindered old new rose out) fault × SendsFront r c d → IsNotOfMemory fault
     → IsCaused rose out fault → (reliable ≡ true → IsOfReliable bytes_of fault)
-    → Put (run_fault_line named.old_path named.new_path fault) e f m n
+    → Put (run_fault_line Compared named.old_path named.new_path fault) e f m n
     → Ends (answer_by named r) named (fault_status fault) (sinks c d e f m n) ((reliable ≡ false) × rose) out
 ends_fault (Open side) r named reliable rose out bytes_of is_missing old new c d e f m n told_old told_new ends fed cause
     unfailed put =
@@ -177,6 +178,6 @@ run_of bytes_of is_missing asked named a is = search (rules, compared_by, same_a
 -- the line of a run's fault over the paths that are named
 pub put_paths : (fault : RunFault) (named : Named) (old_path new_path : List ℕ) (e f : Option (List ℕ)) (m n : ℕ)
     → named.old_path ≡ old_path → named.new_path ≡ new_path
-    → Put (run_fault_line old_path new_path fault) e f m n
-    → Put (run_fault_line named.old_path named.new_path fault) e f m n
+    → Put (run_fault_line Compared old_path new_path fault) e f m n
+    → Put (run_fault_line Compared named.old_path named.new_path fault) e f m n
 put_paths fault named old_path new_path e f m n is_old is_new put = search rules

@@ -14,7 +14,7 @@ use aide_conf::{Settings, Task};
 use aide_db::{Side, Sources};
 use aide_report::run;
 use aide_site::{
-    Devices, LIMITS, LONGEST, Site, Status, Telling, put_memory_line, put_outcome_lines,
+    Devices, LIMITS, LONGEST, Site, Status, Telling, Whose, put_memory_line, put_outcome_lines,
     put_run_fault,
 };
 use aide_text::Sink;
@@ -49,7 +49,7 @@ fn compare_sides<T: Telling, S: Site, W: Sink, E: Sink>(
             outcome.status()
         }
         Err(fault) => {
-            put_run_fault(devices.err, task, fault);
+            put_run_fault(devices.err, Whose::Compared, task, fault);
             fault.status()
         }
     }

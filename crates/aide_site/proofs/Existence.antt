@@ -24,6 +24,7 @@ use Rattle.aide_site.specs.Files.{Files, is_too_large}
 use Rattle.aide_site.specs.Says.{Says, usage_by}
 use Rattle.aide_words.specs.Job.{JobText}
 use Rattle.aide_site.specs.Lines.{too_large_line, unread_line, conf_line, open_line, database_line}
+use Rattle.aide_site.specs.declared.whose.Whose.TheVariants.{Compared}
 use Rattle.aide_site.proofs.Closings.{only_config}
 
 -- two texts have a right answer
@@ -38,12 +39,12 @@ run_of wish old new = elim (sound_or_fault limits old (omega arith)) [
 
 -- what stands at both paths has an answer
 compared : (options : Options) (named : Named) (old new : Option (List ℕ)) → (a : Answer) × IsCompared options named old new a
-compared options named None new = (refused (open_line Old named.old_path) 18, refl)
+compared options named None new = (refused (open_line Compared Old named.old_path) 18, refl)
 compared options named (Some old) None = elim (sound_or_fault limits old (omega arith)) [
   | inr bad ↦
       let fault : DbFault = record { side = Old; line = bad.0; kind = bad.1 } in
-      (refused (database_line fault) 24, inr (fault, (refl, bad.2), refl))
-  | inl sound ↦ (refused (open_line New named.new_path) 18, inl (sound, refl))
+      (refused (database_line Compared fault) 24, inr (fault, (refl, bad.2), refl))
+  | inl sound ↦ (refused (open_line Compared New named.new_path) 18, inl (sound, refl))
 ]
 compared options named (Some old) (Some new) =
     let run = run_of (asked_by options named) old new in (answer_of_run run.0, (run.0, run.1, refl))

@@ -21,6 +21,7 @@ use Rattle.aide_words.specs.Job.{JobText}
 use Rattle.aide_site.specs.Lines.{unread_line, too_large_line, conf_line, open_line}
 use Rattle.aide_site.specs.Lines.{database_line, outcome_lines}
 use Rattle.aide_site.specs.Says.{Says, usage_by}
+use Rattle.aide_site.specs.declared.whose.Whose.TheVariants.{Compared}
 
 -- what a session writes to standard output and to standard error, and its status
 pub record Answer : Type 0 where
@@ -66,18 +67,18 @@ answer_of_run (Ok report) = record {
   errors = outcome_lines report.outcome;
   status = status_of report.outcome.added report.outcome.removed report.outcome.changed;
 }
-answer_of_run (Err fault) = refused (database_line fault) 24
+answer_of_run (Err fault) = refused (database_line Compared fault) 24
 
 -- The answer of a comparison, by what is at the paths of the two databases. If there is no old one,
 -- the answer is that the old one was not opened. If only the new one is missing, there are two
 -- cases: if the old one is sound, the answer is that the new one was not opened, otherwise it is
 -- the first fault of the old one. If both are there, it is the answer of their comparison.
 abbrev pub IsCompared : Options → Named → Option (List ℕ) → Option (List ℕ) → Answer → Type 0
-IsCompared options named None new a = a ≡ refused (open_line Old named.old_path) 18
+IsCompared options named None new a = a ≡ refused (open_line Compared Old named.old_path) 18
 IsCompared options named (Some old) None a =
-    (IsSound limits old × (a ≡ refused (open_line New named.new_path) 18))
+    (IsSound limits old × (a ≡ refused (open_line Compared New named.new_path) 18))
     ⊎ ((fault : DbFault) × IsFirstFaultOf limits Old old fault
-    × (a ≡ refused (database_line fault) 24))
+    × (a ≡ refused (database_line Compared fault) 24))
 IsCompared options named (Some old) (Some new) a = (run : Result Report DbFault)
     × Runs limits (asked_by options named) old new run × (a ≡ answer_of_run run)
 

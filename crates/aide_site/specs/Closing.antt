@@ -37,6 +37,7 @@ use Rattle.aide_words.specs.Job.{JobText}
 use Rattle.aide_site.specs.Lines.{memory_line, unread_line, too_large_line}
 use Rattle.aide_site.specs.Lines.{conf_line, run_fault_line, outcome_lines, write_line}
 use Rattle.aide_site.specs.Says.{Says, usage_by}
+use Rattle.aide_site.specs.declared.whose.Whose.TheVariants.{Compared}
 
 -- the result of a session
 pub data Closing : Type 0 where
@@ -71,7 +72,8 @@ closing_line says named large_config = too_large_line
 closing_line says named (bad_config fault) = conf_line fault
 closing_line says named (good_config s) = []
 closing_line says named (untold_config s) = write_line
-closing_line says named (bad_run options fault) = run_fault_line named.old_path named.new_path fault
+closing_line says named (bad_run options fault) =
+    run_fault_line Compared named.old_path named.new_path fault
 closing_line says named (good_run options outcome) = outcome_lines outcome
 
 -- How often each side was opened and the output was flushed, before and after. Also which bytes

@@ -9,6 +9,7 @@ use Rattle.aide_text.specs.Failures.{Rose}
 use Rattle.aide_site.specs.Answer.{Answer, Named}
 use Rattle.aide_site.specs.Lines.{memory_line, unread_line, open_line, database_line, write_line}
 use Rattle.aide_site.specs.Put.{Put}
+use Rattle.aide_site.specs.declared.whose.Whose.TheVariants.{Compared}
 use Rattle.aide_text.specs.Sent.{SendsPart}
 
 -- What was written, by the sinks before and after: the bytes of the output, the bytes of standard
@@ -47,8 +48,9 @@ pub data Failure : Type 0 where
 -- the line of a failure
 abbrev pub failure_line : Named → Failure → List ℕ
 failure_line named config_unread = unread_line named.config
-failure_line named (unopened side) = open_line side (by_side named.old_path named.new_path side)
-failure_line named (unread fault) = database_line fault
+failure_line named (unopened side) =
+    open_line Compared side (by_side named.old_path named.new_path side)
+failure_line named (unread fault) = database_line Compared fault
 failure_line named unwritten = write_line
 
 -- A site that is not reliable has counted a failure, by the counts before and after. On a reliable

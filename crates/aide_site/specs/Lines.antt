@@ -17,6 +17,8 @@ use Rattle.aide_entry.specs.declared.fault_kind.DbFaultKind.{DbFaultKind}
 use Rattle.aide_entry.specs.declared.fault_kind.DbFaultKind.TheVariants as db
 use Rattle.aide_conf.specs.Fault.{kind_words, text_word}
 use Rattle.aide_conf.specs.declared.fault.ConfFault.{ConfFault}
+use Rattle.aide_site.specs.declared.whose.Whose.{Whose}
+use Rattle.aide_site.specs.declared.whose.Whose.TheVariants.{Compared, Trusted}
 
 -- the arguments are not those of the command
 unfoldable pub usage_line : List ℕ
@@ -50,10 +52,12 @@ conf_line fault =
     codes "aide: " ++ (text_word fault.text ++ (codes ":" ++ (decimal fault.line ++ (codes ": "
     ++ (kind_words fault.kind ++ codes "\n")))))
 
--- the word for a side
-abbrev pub side_word : Side → List ℕ
-side_word Old = codes "old"
-side_word New = codes "new"
+-- the word for a side of a pair
+abbrev pub side_word : Whose → Side → List ℕ
+side_word Compared Old = codes "old"
+side_word Compared New = codes "new"
+side_word Trusted Old = codes "trusted old"
+side_word Trusted New = codes "trusted new"
 
 -- the number of a column after words that end in `column`, or nothing
 unfoldable pub number_if_any : Option ℕ → List ℕ
@@ -61,27 +65,27 @@ number_if_any None = []
 number_if_any (Some column) = codes " " ++ decimal column
 
 -- `aide: SIDE database:LINE: WORDS`, with the number of the column that the fault is about, if any
-unfoldable pub database_line : DbFault → List ℕ
-database_line fault =
-    codes "aide: " ++ (side_word fault.side ++ (codes " database:" ++ (decimal fault.line
+unfoldable pub database_line : Whose → DbFault → List ℕ
+database_line whose fault =
+    codes "aide: " ++ (side_word whose fault.side ++ (codes " database:" ++ (decimal fault.line
     ++ (codes ": " ++ (words_of_kind fault.kind ++ (number_if_any (column_of_kind fault.kind)
     ++ codes "\n"))))))
 
 -- the database of a side at a path was not opened
-unfoldable pub open_line : Side → List ℕ → List ℕ
-open_line side path =
-    codes "aide: cannot open the " ++ (side_word side ++ (codes " database "
+unfoldable pub open_line : Whose → Side → List ℕ → List ℕ
+open_line whose side path =
+    codes "aide: cannot open the " ++ (side_word whose side ++ (codes " database "
     ++ (printed path ++ codes "\n")))
 
 -- the database of a side changed while it was read
-unfoldable pub changed_line : Side → List ℕ
-changed_line side =
-    codes "aide: the " ++ (side_word side ++ codes " database changed while it was read\n")
+unfoldable pub changed_line : Whose → Side → List ℕ
+changed_line whose side =
+    codes "aide: the " ++ (side_word whose side ++ codes " database changed while it was read\n")
 
 -- `aide: SIDE database: column N skipped`
 unfoldable pub skipped_line : Side → ℕ → List ℕ
 skipped_line side column =
-    codes "aide: " ++ (side_word side ++ (codes " database: column " ++ (decimal column
+    codes "aide: " ++ (side_word Compared side ++ (codes " database: column " ++ (decimal column
     ++ codes " skipped\n")))
 
 -- the line for the column at an index, if the set of skipped columns has this column
@@ -104,13 +108,14 @@ abbrev pub outcome_lines : Outcome → List ℕ
 outcome_lines o = skipped_lines Old o.skipped_old ++ skipped_lines New o.skipped_new
 
 -- the line of a database's fault that ended a run
-abbrev pub kind_line : DbFault → DbFaultKind → List ℕ
-kind_line fault db.Memory = memory_line
-kind_line fault _ = database_line fault
+abbrev pub kind_line : Whose → DbFault → DbFaultKind → List ℕ
+kind_line whose fault db.Memory = memory_line
+kind_line whose fault _ = database_line whose fault
 
--- the line for the fault that ended a run over databases at these paths
-abbrev pub run_fault_line : (old_path new_path : List ℕ) → RunFault → List ℕ
-run_fault_line old_path new_path (Open side) = open_line side (by_side old_path new_path side)
-run_fault_line old_path new_path (Database fault) = kind_line fault fault.kind
-run_fault_line old_path new_path (Changed side) = changed_line side
-run_fault_line old_path new_path (Write written) = write_line
+-- the line for the fault that ended a run over a pair of databases at these paths
+abbrev pub run_fault_line : Whose → (old_path new_path : List ℕ) → RunFault → List ℕ
+run_fault_line whose old_path new_path (Open side) =
+    open_line whose side (by_side old_path new_path side)
+run_fault_line whose old_path new_path (Database fault) = kind_line whose fault fault.kind
+run_fault_line whose old_path new_path (Changed side) = changed_line whose side
+run_fault_line whose old_path new_path (Write written) = write_line

@@ -18,6 +18,7 @@ mod run_fault;
 mod site;
 mod status;
 mod telling;
+mod whose;
 
 pub use config_check::check_job;
 pub use devices::Devices;
@@ -26,14 +27,14 @@ pub use file_site::FileSite;
 pub use job_config::{JobConfig, NoSettings, job_settings, put_no_settings};
 pub use limits::{LIMITS, LONGEST};
 pub use lines::{
-    put_fault_column, put_lines_usage_line, put_memory_line, put_outcome_lines, put_usage_line,
-    put_write_line, side_name,
+    put_lines_usage_line, put_memory_line, put_outcome_lines, put_usage_line, put_write_line,
 };
 pub use machine::{Ended, take_words};
 pub use memory_site::MemorySite;
 pub use paged_sink::PagedSink;
 pub use put::pass_on;
-pub use run_fault::{path_of, put_run_fault};
+pub use run_fault::put_run_fault;
 pub use site::{Site, SiteWithDesk};
 pub use status::Status;
 pub use telling::{Telling, Unwritten};
+pub use whose::Whose;

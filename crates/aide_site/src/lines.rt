@@ -11,6 +11,7 @@ ghost use Rattle.aide_text.specs.PenSheet.{on_sheet};
 ghost use Rattle.aide_text.specs.Sheet.{Wrote};
 
 use crate::put::put_fixed;
+use crate::whose::Whose;
 use aide_conf::ConfFault;
 use aide_db::{DbFault, DbFaultKind, Side};
 use aide_merge::Outcome;
@@ -91,18 +92,24 @@ pub(crate) fn put_conf_line<E: Sink>(err: &mut E, fault: ConfFault)
 }
 
 /// Returns the word for a side.
-pub fn side_name(of: Side) -> &'static [u8]
-    ensures { result.now ≡ side_word of }
+fn side_name(whose: Whose, of: Side) -> &'static [u8]
+    ensures { result.now ≡ side_word whose of }
 {
-    match of {
-        Side::Old => b"old",
-        Side::New => b"new",
+    match whose {
+        Whose::Compared => match of {
+            Side::Old => b"old",
+            Side::New => b"new",
+        },
+        Whose::Trusted => match of {
+            Side::Old => b"trusted old",
+            Side::New => b"trusted new",
+        },
     }
 }
 
 /// Puts the number of the column that a fault is about, if it is about one.
 #[tactic(auto, unfolding(crate::specs::Lines::number_if_any))]
-pub fn put_fault_column<E: Sink>(err: &mut E, pen: &mut Pen, kind: DbFaultKind)
+fn put_fault_column<E: Sink>(err: &mut E, pen: &mut Pen, kind: DbFaultKind)
     ensures { Wrote (number_if_any (column_of_kind kind)) (on_sheet E.Sink err.old pen.old)
         (on_sheet E.Sink err.new pen.new) }
 {
@@ -113,12 +120,12 @@ pub fn put_fault_column<E: Sink>(err: &mut E, pen: &mut Pen, kind: DbFaultKind)
 }
 
 /// Puts the line for a fault of a database.
-pub(crate) fn put_database_line<E: Sink>(err: &mut E, fault: DbFault)
-    ensures { PutOn (database_line fault) E.Sink err.old err.new }
+pub(crate) fn put_database_line<E: Sink>(err: &mut E, whose: Whose, fault: DbFault)
+    ensures { PutOn (database_line whose fault) E.Sink err.old err.new }
 {
     let mut pen = Pen::new();
     put(err, &mut pen, b"aide: ");
-    put(err, &mut pen, side_name(fault.side));
+    put(err, &mut pen, side_name(whose, fault.side));
     put(err, &mut pen, b" database:");
     put_number(err, &mut pen, fault.line);
     put(err, &mut pen, b": ");
@@ -128,24 +135,24 @@ pub(crate) fn put_database_line<E: Sink>(err: &mut E, fault: DbFault)
 }
 
 /// Puts the line for a database that was not opened.
-pub(crate) fn put_open_line<E: Sink>(err: &mut E, side: Side, path: &str)
-    ensures { PutOn (open_line side path.now) E.Sink err.old err.new }
+pub(crate) fn put_open_line<E: Sink>(err: &mut E, whose: Whose, side: Side, path: &str)
+    ensures { PutOn (open_line whose side path.now) E.Sink err.old err.new }
 {
     let mut pen = Pen::new();
     put(err, &mut pen, b"aide: cannot open the ");
-    put(err, &mut pen, side_name(side));
+    put(err, &mut pen, side_name(whose, side));
     put(err, &mut pen, b" database ");
     put_path(err, &mut pen, SliceFeed::of(path.as_bytes()));
     put(err, &mut pen, b"\n");
 }
 
 /// Puts the line for a database that changed while it was read.
-pub(crate) fn put_changed_line<E: Sink>(err: &mut E, side: Side)
-    ensures { PutOn (changed_line side) E.Sink err.old err.new }
+pub(crate) fn put_changed_line<E: Sink>(err: &mut E, whose: Whose, side: Side)
+    ensures { PutOn (changed_line whose side) E.Sink err.old err.new }
 {
     let mut pen = Pen::new();
     put(err, &mut pen, b"aide: the ");
-    put(err, &mut pen, side_name(side));
+    put(err, &mut pen, side_name(whose, side));
     put(err, &mut pen, b" database changed while it was read\n");
 }
 
@@ -154,7 +161,7 @@ fn put_skipped_line<E: Sink>(err: &mut E, pen: &mut Pen, side: Side, column: u64
         (on_sheet E.Sink err.new pen.new) }
 {
     put(err, pen, b"aide: ");
-    put(err, pen, side_name(side));
+    put(err, pen, side_name(Whose::Compared, side));
     put(err, pen, b" database: column ");
     put_number(err, pen, column);
     put(err, pen, b" skipped\n");

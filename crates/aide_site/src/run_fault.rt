@@ -7,13 +7,14 @@ ghost use Rattle.aide_site.specs.Put.{PutOn};
 use crate::lines::{
     put_changed_line, put_database_line, put_memory_line, put_open_line, put_write_line,
 };
+use crate::whose::Whose;
 use aide_conf::Task;
 use aide_db::{DbFaultKind, Side};
 use aide_merge::RunFault;
 use aide_text::Sink;
 
 /// Returns the configured path of a side.
-pub fn path_of<'a>(task: &Task<'a>, side: Side) -> &'a str
+fn path_of<'a>(task: &Task<'a>, side: Side) -> &'a str
     ensures { result.now ≡ by_side task.now.old_path.now task.now.new_path.now side }
 {
     match side {
@@ -23,17 +24,17 @@ pub fn path_of<'a>(task: &Task<'a>, side: Side) -> &'a str
 }
 
 /// Puts the line that says why a run failed.
-pub fn put_run_fault<E: Sink>(err: &mut E, task: &Task<'_>, fault: RunFault)
-    ensures { PutOn (run_fault_line task.now.old_path.now task.now.new_path.now fault)
+pub fn put_run_fault<E: Sink>(err: &mut E, whose: Whose, task: &Task<'_>, fault: RunFault)
+    ensures { PutOn (run_fault_line whose task.now.old_path.now task.now.new_path.now fault)
         E.Sink err.old err.new }
 {
     match fault {
-        RunFault::Open(side) => put_open_line(err, side, path_of(task, side)),
+        RunFault::Open(side) => put_open_line(err, whose, side, path_of(task, side)),
         RunFault::Database(fault) => match fault.kind {
             DbFaultKind::Memory => put_memory_line(err),
-            _ => put_database_line(err, fault),
+            _ => put_database_line(err, whose, fault),
         },
-        RunFault::Changed(side) => put_changed_line(err, side),
+        RunFault::Changed(side) => put_changed_line(err, whose, side),
         RunFault::Write { written: _ } => put_write_line(err),
     }
 }

@@ -1,0 +1,10 @@
+//! Whose databases a line on standard error is about.
+
+/// One of the two pairs of databases that a session may compare.
+#[derive(Clone, Copy)]
+pub enum Whose {
+    /// The pair that the configuration names.
+    Compared,
+    /// The pair of a trusted machine, which the arguments name.
+    Trusted,
+}
