@@ -7,7 +7,6 @@ mod given_list;
 mod line_databases;
 mod lines_program;
 mod machine;
-mod pair_fault;
 
 pub use lines_program::lines_session_on;
 pub use machine::{run_lines_paged, start_lines};

@@ -3,7 +3,9 @@ ghost use Rattle.std.specs.Prelude.{◌≡◌, ◌≤◌, ◌⊎◌, ℕ, true, 
 ghost use Rattle.aide_merge.specs.Asked.{asked};
 ghost use Rattle.aide_text.specs.Failures.{Rose};
 ghost use Rattle.aide_line_session.specs.LineEnds.{ClosesCompared, StopsWith};
+ghost use Rattle.aide_line_session.specs.LineEnds.{compared_line, compared_status};
 ghost use Rattle.aide_site.specs.Lines.{memory_line};
+ghost use Rattle.aide_site.specs.Put.{PutOn};
 ghost use Rattle.aide_site.specs.Pointing.{KeepsFiles, KeepsOthers};
 ghost use Rattle.aide_line_session.specs.Trusted.{trusted_at};
 ghost use Rattle.aide_line_session.specs.code.LineParts.{IsPointed, files_of, line_view_between};
@@ -13,12 +15,13 @@ ghost use Rattle.aide_line_run.specs.ListView.{list_read};
 ghost use Rattle.aide_line_run.specs.SamePair.{AreSamePair};
 
 use crate::as_line::AsLine;
-use crate::pair_fault::{pair_status, put_pair_fault};
 use aide_conf::Task;
 use aide_db::{Desk, Side};
-use aide_line_run::{Tasks, TrustedPair, run_lines};
+use aide_line_run::{PairFault, Tasks, TrustedPair, run_lines};
+use aide_merge::Outcome;
 use aide_site::{
-    Devices, LIMITS, LONGEST, Site, SiteWithDesk, Status, put_memory_line, put_outcome_lines,
+    Devices, LIMITS, LONGEST, Site, SiteWithDesk, Status, Whose, put_memory_line,
+    put_outcome_lines, put_run_fault,
 };
 use aide_text::Sink;
 use aide_words::Memory;
@@ -75,6 +78,29 @@ fn prepare<S: Site>(
     Ok(())
 }
 
+/// Puts what a comparison has to say on standard error, and returns the exit status.
+fn put_end<E: Sink>(err: &mut E, tasks: &Tasks<'_>, end: Result<Outcome, PairFault>) -> u8
+    ensures put { (config : List ℕ) → PutOn (compared_line
+        (named_by config (asked tasks.now.compared.now))
+        (named_by config (asked tasks.now.trusted.now)) end) E.Sink err.old err.new }
+    ensures status { result ≡ compared_status end }
+{
+    match end {
+        Ok(outcome) => {
+            put_outcome_lines(err, &outcome);
+            outcome.status()
+        }
+        Err(PairFault::Compared(fault)) => {
+            put_run_fault(err, Whose::Compared, tasks.compared, fault);
+            fault.status()
+        }
+        Err(PairFault::Trusted(fault)) => {
+            put_run_fault(err, Whose::Trusted, tasks.trusted, fault);
+            fault.status()
+        }
+    }
+}
+
 /// Compares the databases that both sites are pointed at. Each desk has room for any line.
 fn compare_pairs<S: Site, W: Sink, E: Sink>(
     tasks: &Tasks<'_>,
@@ -100,47 +126,8 @@ fn compare_pairs<S: Site, W: Sink, E: Sink>(
     ensures lookups { S.lookups devices.new.site.now ≡ S.lookups devices.old.site.now }
     ensures trusted_lookups { S.lookups pair.new.sources.now ≡ S.lookups pair.old.sources.now }
 {
-    match run_lines(tasks, LIMITS, devices.desk, devices.site, pair, devices.out) {
-        Ok(outcome) => {
-            put_outcome_lines(devices.err, &outcome);
-            outcome.status()
-        }
-        Err(fault) => {
-            put_pair_fault(devices.err, tasks.compared, tasks.trusted, fault);
-            pair_status(fault)
-        }
-    }
-}
-
-/// Compares the databases of both tasks, which the sites are pointed at.
-fn run_pairs<S: Site, W: Sink, E: Sink>(
-    tasks: &Tasks<'_>,
-    devices: &mut Devices<'_, AsLine, S, W, E>,
-    trusted: &mut SiteWithDesk<S>,
-) -> u8
-    requires room { 1048576 ≤ devices.old.desk.now.room }
-    requires trusted_room { 1048576 ≤ trusted.old.desk.room }
-    ensures same { AreSame devices.old devices.new }
-    ensures closes { (config : List ℕ)
-        → IsPointed (S.file_at devices.old.site.now) (asked tasks.now.compared.now)
-        (S.bytes_of devices.old.site.now) (S.is_missing devices.old.site.now)
-        → IsPointed (trusted_at (S.file_at trusted.old.site)) (asked tasks.now.trusted.now)
-        (S.bytes_of trusted.old.site) (S.is_missing trusted.old.site)
-        → tasks.now.trusted.now.options ≡ tasks.now.compared.now.options
-        → ClosesCompared (list_read tasks.now.list)
-        (named_by config (asked tasks.now.compared.now))
-        (named_by config (asked tasks.now.trusted.now)) tasks.now.compared.now.options result
-        (Rose (S.failures devices.old.site.now) (S.failures devices.new.site.now))
-        (line_view_between S.Sources W.Sink E.Sink devices.old devices.new
-        trusted.old trusted.new) }
-    ensures lookups { S.lookups devices.new.site.now ≡ S.lookups devices.old.site.now }
-    ensures trusted_lookups { S.lookups trusted.new.site ≡ S.lookups trusted.old.site }
-{
-    let mut pair = TrustedPair {
-        desk: &mut trusted.desk,
-        sources: &mut trusted.site,
-    };
-    compare_pairs(tasks, devices, &mut pair)
+    let end = run_lines(tasks, LIMITS, devices.desk, devices.site, pair, devices.out);
+    put_end(devices.err, tasks, end)
 }
 
 /// Points both sites at their databases, reserves what a comparison may hold, and compares the
@@ -185,5 +172,9 @@ pub(crate) fn compare_lines<S: Site, W: Sink, E: Sink>(
         put_memory_line(devices.err);
         return Status::Memory as u8;
     }
-    run_pairs(tasks, devices, trusted)
+    let mut pair = TrustedPair {
+        desk: &mut trusted.desk,
+        sources: &mut trusted.site,
+    };
+    compare_pairs(tasks, devices, &mut pair)
 }

@@ -1,9 +1,9 @@
 //! The program that writes lines of JSON.
-ghost use Rattle.std.specs.Prelude.{◌≡◌, ◌≤◌, Some, None, Ok, IsSome};
+ghost use Rattle.std.specs.Prelude.{◌≡◌, ◌≤◌, Some, None};
 ghost use Rattle.aide_entry.specs.Count.{one_more};
 ghost use Rattle.aide_patterns.specs.List.{HasFirstFault, HasRules};
 ghost use Rattle.aide_patterns.specs.declared.fault.ListFault.{ListFault};
-ghost use Rattle.aide_line_session.specs.LineEnds.{EndsLinesBy, HasReadForLines};
+ghost use Rattle.aide_line_session.specs.LineEnds.{EndsLinesBy};
 ghost use Rattle.aide_site.specs.Answer.{IsAnswerBy};
 ghost use Rattle.aide_line_session.specs.LineSession.{IsLineSession, check_job_of};
 ghost use Rattle.aide_line_session.specs.GivenList.{IsListOf};
@@ -18,7 +18,7 @@ ghost use Rattle.aide_words.specs.LineJob.{LineJobText, line_job_of, text_of_lin
 use crate::as_line::AsLine;
 use crate::given_list::{digest_of, put_list_line};
 use crate::line_databases::compare_lines;
-use aide_conf::{Settings, Task};
+use aide_conf::Task;
 use aide_line_run::{LeftOutList, Tasks};
 use aide_patterns::{Exclusions, ListFaultKind};
 use aide_site::{
@@ -29,45 +29,9 @@ use aide_text::Sink;
 use aide_words::{LineJob, Words, WordsFault, read_line_words, read_words};
 use std::alloc::Global;
 
-/// Compares the databases that the settings name and those of the trusted pair of a job, whose list
-/// has been read.
-fn compare_settings<S: Site, W: Sink, E: Sink>(
-    job: &LineJob,
-    list: LeftOutList<'_>,
-    settings: &Settings,
-    devices: &mut Devices<'_, AsLine, S, W, E>,
-    trusted: &mut SiteWithDesk<S>,
-) -> u8
-    requires { IsSome settings.now.old_path × IsSome settings.now.new_path }
-    ensures same { AreSame devices.old devices.new }
-    ensures closes { IsListOf job.now.without (list_read list.entry)
-        → HasReadForLines (S.file_at devices.old.site.now) (text_of_line_job job.now)
-        (Ok settings.now)
-        → EndsLinesBy (text_of_line_job job.now) result
-        (S.failures devices.old.site.now)
-        (line_view_between S.Sources W.Sink E.Sink devices.old devices.new
-        trusted.old trusted.new) }
-    ensures lookups { S.lookups devices.new.site.now ≡ S.lookups devices.old.site.now }
-    ensures trusted_lookups { S.lookups trusted.new.site ≡ S.lookups trusted.old.site }
-{
-    let Some(task) = settings.task() else {
-        unreachable!()
-    };
-    let trusted_task = Task {
-        old_path: job.trusted_old.as_str(),
-        new_path: job.trusted_new.as_str(),
-        options: task.options,
-    };
-    let tasks = Tasks {
-        compared: &task,
-        trusted: &trusted_task,
-        list,
-    };
-    compare_lines(&tasks, devices, trusted)
-}
-
-/// Runs the session of a comparison, whose list has been read.
-fn run_listed<S: Site, W: Sink, E: Sink>(
+/// Reads the settings of a comparison whose list has been read, and compares the databases that they
+/// name and those of the trusted pair.
+fn compare_listed<S: Site, W: Sink, E: Sink>(
     job: &LineJob,
     list: LeftOutList<'_>,
     devices: &mut Devices<'_, AsLine, S, W, E>,
@@ -83,7 +47,22 @@ fn run_listed<S: Site, W: Sink, E: Sink>(
     ensures trusted_lookups { S.lookups trusted.new.site ≡ S.lookups trusted.old.site }
 {
     match job_settings(devices.alloc, devices.site, &JobConfig::of_lines(job)) {
-        Ok(settings) => compare_settings(job, list, &settings, devices, trusted),
+        Ok(settings) => {
+            let Some(task) = settings.task() else {
+                unreachable!()
+            };
+            let trusted_task = Task {
+                old_path: job.trusted_old.as_str(),
+                new_path: job.trusted_new.as_str(),
+                options: task.options,
+            };
+            let tasks = Tasks {
+                compared: &task,
+                trusted: &trusted_task,
+                list,
+            };
+            compare_lines(&tasks, devices, trusted)
+        }
         Err(why) => put_no_settings(devices.err, job.config.as_str(), why),
     }
 }
@@ -109,7 +88,7 @@ fn run_ruled<S: Site, W: Sink, E: Sink>(
         rules,
         digest: &digest,
     };
-    run_listed(job, list, devices, trusted)
+    compare_listed(job, list, devices, trusted)
 }
 
 /// Runs the session of a comparison.
