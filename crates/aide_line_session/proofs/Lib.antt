@@ -1,6 +1,5 @@
 mod Causes
 mod CheckJobs
-mod LineSettings
 mod LineParts
 mod LineComparisons
 mod LineEndings

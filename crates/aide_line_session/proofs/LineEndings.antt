@@ -1,13 +1,11 @@
 -- A session of lines ends with its answer, or is kept from it.
-use Rattle.std.proofs.Common.{◌≡◌, ◌∙◌, ℕ, ◌≤◌, List, Option, Some, None, sym, ap, Bool, false, Ok, Err, inl, inr, ◌⊎◌}
+use Rattle.std.proofs.Common.{◌≡◌, ◌∙◌, ℕ, ◌≤◌, List, Option, sym, ap, Ok, Err, inl, inr, ◌⊎◌}
 use Rattle.std.proofs.Common.{arith, rules}
 use Rattle.std.specs.Prelude.{Result, max}
 use Rattle.std.specs.Io.KnownBytes.{Keeps}
 use Rattle.std.proofs.Math.Path.{subst}
 use Rattle.aide_conf.specs.Settings.{Configured}
-use Rattle.aide_conf.specs.declared.fault.ConfFault.{ConfFault}
 use Rattle.aide_conf.specs.declared.options.Options.{Options}
-use Rattle.aide_conf.proofs.Laws.{no_configuration_has_two_answers}
 use Rattle.aide_patterns.proofs.Laws.{one_reading}
 use Rattle.aide_patterns.specs.Line.{RuleText}
 use Rattle.aide_patterns.specs.List.{HasFirstFault, HasRules, IsReading}
@@ -15,23 +13,26 @@ use Rattle.aide_patterns.specs.declared.fault.ListFault.{ListFault}
 use Rattle.aide_text.specs.Failures.{Rose}
 use Rattle.aide_merge.specs.declared.outcome.Outcome.{Outcome}
 use Rattle.aide_site.specs.Answer.{Named}
-use Rattle.aide_line_session.specs.LineAnswer.{ComparesForLines, IsLineAnswer, IsFileLineAnswer, IsReadLineAnswer}
-use Rattle.aide_line_session.specs.LineAnswer.{IsSizedLineAnswer, IsTextLineAnswer}
-use Rattle.aide_line_session.specs.LineAnswer.{IsGivenLineAnswer, IsListedLineAnswer}
+use Rattle.aide_line_session.specs.LineAnswer.{ComparesForLines, IsGivenLineAnswer, IsLineAnswer, IsListedLineAnswer}
+use Rattle.aide_line_session.specs.LineAnswer.{IsSettingsLineAnswer}
 use Rattle.aide_line_session.specs.LineAnswer.{LineAnswer}
 use Rattle.aide_line_session.specs.LineAnswer.{refused_lines, trusted_of}
 use Rattle.aide_line_session.specs.LineEnds.{PairFailure, PairFailureCause, LineView, ClosesLines, ComparesPairs, EndsLinesBy}
-use Rattle.aide_line_session.specs.LineEnds.{EndsWithin, HasReadForLines, StopCause, StopsWith}
+use Rattle.aide_line_session.specs.LineEnds.{EndsWithin, StopCause, StopsWith}
 use Rattle.aide_line_session.specs.LineEnds.{compared_line, of_compared, stop_line, stop_status}
 use Rattle.aide_line_session.specs.LineEnds.{StarvedLines, WholeLines, trusted_unopened, trusted_unread}
-use Rattle.aide_line_session.specs.LineEnds.{config_refused, config_too_large, config_unread, list_refused, no_memory_left, EarlyStop}
+use Rattle.aide_line_session.specs.LineEnds.{EarlyStop, list_refused, no_settings}
 use Rattle.aide_site.specs.Ends.{Puts, Sinks, config_unread as failed_config, unopened, unread, unwritten}
-use Rattle.aide_site.specs.Files.{Files, IsLarge, is_too_large}
+use Rattle.aide_site.specs.Files.{Files}
+use Rattle.aide_site.specs.JobSettings.{comparison_of, no_settings_line, no_settings_status}
+use Rattle.aide_site.specs.declared.job_config.NoSettings.{NoSettings}
+use Rattle.aide_site.specs.declared.job_config.NoSettings.TheVariants.{Memory}
 use Rattle.aide_line_session.specs.GivenList.{IsList, IsListOf, list_line, list_of}
 use Rattle.aide_site.specs.Held.{HoldsWithin, most_held}
-use Rattle.aide_site.specs.Lines.{conf_line, too_large_line, unread_line}
-use Rattle.aide_site.proofs.AnswerSteps.{same_file}
-use Rattle.aide_site.proofs.Endings.{by_reliable, same_some}
+use Rattle.aide_site.specs.Lines.{unread_line}
+use Rattle.aide_site.proofs.AnswerSteps.{read_is}
+use Rattle.aide_site.proofs.Endings.{same_some}
+use Rattle.aide_site.proofs.JobSettings.{stopped}
 use Rattle.aide_site.proofs.PutLemmas.{put_as, put_passed}
 use Rattle.aide_line_run.specs.Listed.{ListRead}
 use Rattle.aide_line_run.specs.declared.pair_fault.PairFault.{PairFault}
@@ -40,24 +41,12 @@ use Rattle.aide_line_session.proofs.LineComparisons.{EndsFor, compared_ends, non
 
 -- ---- from the answer to a job to that of its configuration
 
-module _ (files trusted_files : Files) (job : LineJobText) (list : ListRead) (named : Named) (a : LineAnswer) where
-  of_text : (file : Option (List ℕ)) (text : List ℕ) → file ≡ Some text → is_too_large text ≡ false
-      → IsFileLineAnswer files trusted_files job list file named a → IsTextLineAnswer files trusted_files job list text named a
-  of_text file text same small is = search rules
-
-  of_large : (file : Option (List ℕ)) → IsLarge file → IsFileLineAnswer files trusted_files job list file named a
-      → a ≡ refused_lines too_large_line 17
-  of_large None large is = absurd large
-  of_large (Some text) large is = subst (λ (b : Bool). IsSizedLineAnswer files trusted_files job list b text named a) large is
-
-  of_none : (file : Option (List ℕ)) → file ≡ None → IsFileLineAnswer files trusted_files job list file named a
-      → a ≡ refused_lines (unread_line job.config) 18
-  of_none file none is = subst (λ (o : Option (List ℕ)). IsFileLineAnswer files trusted_files job list o named a) none is
-
-  -- the answer of the reading that was made
-  of_read : (read : Result Configured ConfFault) → HasReadForLines files job read → IsListedLineAnswer files trusted_files job list named a
-      → IsReadLineAnswer files trusted_files job list read named a
-  of_read read has is = search (rules, of_text, no_configuration_has_two_answers)
+-- the answer of settings that are known
+of_settings : (files trusted_files : Files) (job : LineJobText) (list : ListRead) (named : Named) (a : LineAnswer)
+    (settings : Result Configured NoSettings) (is : IsListedLineAnswer files trusted_files job list named a) → is.settings ≡ settings
+    → IsSettingsLineAnswer files trusted_files job list settings named a
+of_settings files trusted_files job list named a settings is same =
+    subst (λ (r : Result Configured NoSettings). IsSettingsLineAnswer files trusted_files job list r named a) same is.then_is
 
 -- ---- from the answer to a job to that of its list
 
@@ -100,46 +89,47 @@ whole_stop a line code status v is stops = search rules
 
 module _ (job : LineJobText) (status before : ℕ) (v : LineView) (named : Named) (a : LineAnswer)
     (is : IsLineAnswer v.files v.trusted_files job named a) where
+  starved_stop : (why : NoSettings) → why ≡ Memory
+      → StopsWith (no_settings_line job.config why) (no_settings_status why) status v
+      → EndsFor a named (trusted_of job) status before v
+  starved_stop why memory stops = inr (inl (record {
+    status_is = stops.status_is ∙ ap no_settings_status memory;
+    output = stops.output;
+    put = put_as _ _ (ap (no_settings_line job.config) memory) stops.put;
+  }))
+
   stop_ends : (stop : EarlyStop) → StopCause v.files v.is_reliable job (Rose before v.site_after) stop
       → StopsWith (stop_line job stop) (stop_status stop) status v
       → EndsFor a named (trusted_of job) status before v
-  stop_ends no_memory_left cause stops =
-      inr (inl (record { status_is = stops.status_is; output = stops.output; put = stops.put }))
   stop_ends (list_refused fault) cause stops =
       inl (whole_stop a (list_line fault) 17 status v (of_reading v.files v.trusted_files job named a is (Err fault) cause) stops)
-  stop_ends config_unread cause stops =
-      by_reliable v.is_reliable (EndsFor a named (trusted_of job) status before v)
-      (λ reliable.
-      let listed = of_rules v.files v.trusted_files job named a is cause.0 in
-      inl (whole_stop a (unread_line job.config) 18 status v
-      (of_none v.files v.trusted_files job (list_of job.without cause.0.0) named a listed.file
-      (same_file (v.files job.config) listed.file listed.known (cause.2 reliable)) listed.then_is)
-      stops))
-      (λ unreliable. inr (inr (record {
-        status_is = stops.status_is;
-        output = none_starts a.output v.sinks.out_old v.sinks.out_new stops.output;
-        failure = of_compared failed_config;
-        cause = (unreliable, cause.1);
-        put = put_as _ _ (ap unread_line (sym is.config_is)) stops.put;
-      })))
-  stop_ends config_too_large cause stops =
-      let listed = of_rules v.files v.trusted_files job named a is cause.0 in
-      inl (whole_stop a too_large_line 17 status v
-      (of_large v.files v.trusted_files job (list_of job.without cause.0.0) named a listed.file (cause.1 listed.file listed.known)
-      listed.then_is)
-      stops)
-  stop_ends (config_refused fault) cause stops =
-      inl (whole_stop a (conf_line fault) 17 status v
-      (of_read v.files v.trusted_files job (list_of job.without cause.0.0) named a (Err fault) cause.1
-      (of_rules v.files v.trusted_files job named a is cause.0))
-      stops)
+  stop_ends (no_settings why) cause stops = elim cause [
+    | inl memory ↦ starved_stop why memory stops
+    | inr because ↦
+        let listed = of_rules v.files v.trusted_files job named a is because.0 in
+        elim (stopped v.files v.is_reliable (comparison_of job) (Rose before v.site_after) why listed.settings because.1 listed.are) [
+          | inl memory ↦ starved_stop why memory stops
+          | inr other ↦ elim other [
+            | inl same ↦ inl (whole_stop a (no_settings_line job.config why) (no_settings_status why) status v
+                (of_settings v.files v.trusted_files job (list_of job.without because.0.0) named a (Err why) listed same) stops)
+            | inr failed ↦ inr (inr (record {
+              status_is = stops.status_is ∙ ap no_settings_status failed.0;
+              output = none_starts a.output v.sinks.out_old v.sinks.out_new stops.output;
+              failure = of_compared failed_config;
+              cause = (failed.1, failed.2);
+              put = put_as _ _ (ap (no_settings_line job.config) failed.0 ∙ ap unread_line (sym is.config_is)) stops.put;
+            }))
+          ]
+        ]
+  ]
 
   -- the comparison of the answer
   answer_compares : (closes : ClosesLines job status before v)
       → ComparesForLines v.files v.trusted_files job closes.list closes.settings named a
   answer_compares closes =
-      of_read v.files v.trusted_files job closes.list named a (Ok closes.settings) closes.read
-      (of_list v.files v.trusted_files job named a is closes.list closes.listed)
+      let listed = of_list v.files v.trusted_files job named a is closes.list closes.listed in
+      of_settings v.files v.trusted_files job closes.list named a (Ok closes.settings) listed
+      (read_is v.files (comparison_of job) (Ok closes.settings) listed.settings closes.read listed.are)
 
   -- the paths of the comparison are those of the answer
   same_paths : (closes : ClosesLines job status before v) → closes.named ≡ named

@@ -1,12 +1,8 @@
 -- There is an answer to a job of lines, where it is told what stands at the paths that are named.
-use Rattle.std.proofs.Common.{◌≡◌, ℕ, ◌≤◌, List, Option, Some, None, refl, sym, arith, Bool, true, false, Ok, Err, inl, inr, rules}
-use Rattle.std.specs.Prelude.{Result, IsSome, ⊤}
+use Rattle.std.proofs.Common.{◌≡◌, ◌∙◌, ℕ, ◌≤◌, List, Option, Some, None, ap, refl, arith, Ok, Err, inl, inr, rules}
+use Rattle.std.specs.Prelude.{Result, ⊤}
 use Rattle.std.proofs.Math.Path.{subst}
-use Rattle.aide_conf.specs.ReadResult.{ReadsAs}
 use Rattle.aide_conf.specs.Settings.{Configured}
-use Rattle.aide_conf.specs.declared.fault.ConfFault.{ConfFault}
-use Rattle.aide_conf.specs.declared.task.Need.TheVariants.{Compare}
-use Rattle.aide_conf.proofs.Laws.{every_configuration_has_an_answer, what_is_compared_is_named}
 use Rattle.aide_db.specs.declared.limits.Limits.{Limits}
 use Rattle.aide_db.specs.declared.side.Side.TheVariants.{Old, New}
 use Rattle.aide_patterns.proofs.Laws.{has_reading}
@@ -21,13 +17,15 @@ use Rattle.aide_merge.specs.declared.outcome.Outcome.{Outcome}
 use Rattle.aide_merge.specs.declared.run_fault.RunFault.{RunFault}
 use Rattle.aide_merge.proofs.RightAnswers.{RunsOverBy-exists}
 use Rattle.aide_site.specs.Answer.{Named, asked_by, limits}
-use Rattle.aide_line_session.specs.LineAnswer.{HasLineAnswer, IsReadLineAnswer, IsSizedLineAnswer, IsTextLineAnswer, TellsForLines}
+use Rattle.aide_line_session.specs.LineAnswer.{HasLineAnswer, IsLineAnswer, IsListedLineAnswer, TellsForLines}
 use Rattle.aide_line_session.specs.LineAnswer.{LineAnswer, ComparesForLines, line_answer, lines_at_fault, refused_lines, trusted_of}
-use Rattle.aide_line_session.specs.LineAnswer.{IsLineAnswer, IsListedLineAnswer}
-use Rattle.aide_site.specs.Files.{Files, is_too_large}
+use Rattle.aide_site.specs.Files.{Files}
+use Rattle.aide_site.specs.JobSettings.{AreSettings, HasRead, comparison_of, no_settings_line, no_settings_status}
 use Rattle.aide_line_session.specs.GivenList.{list_line, list_of}
-use Rattle.aide_site.specs.Lines.{conf_line, too_large_line, unread_line}
+use Rattle.aide_site.proofs.AnswerSteps.{AreFound, settings_found}
 use Rattle.aide_site.proofs.Closings.{only_config}
+use Rattle.aide_site.proofs.Existence.{value_of}
+use Rattle.aide_site.proofs.JobSettings.{both_named}
 use Rattle.aide_line_run.specs.Lines.{lines_of_texts}
 use Rattle.aide_line_run.specs.RunEnds.{RunsLines, answer_by, over_sides}
 use Rattle.aide_line_run.specs.Listed.{ListRead}
@@ -93,89 +91,54 @@ RunsLines-exists bounds list wish trusted_wish old new trusted_old trusted_new l
 
 -- ---- a job has an answer
 
-value_of : (path : Option (List ℕ)) → IsSome path → (value : List ℕ) × (path ≡ Some value)
-value_of None some = cc
-value_of (Some value) some = (value, refl)
-
 module _ (files trusted_files : Files) (job : LineJobText) (list : ListRead) (tells : TellsForLines files trusted_files job) where
   -- an answer over what was read of the list
   abbrev HasListedAnswer : Type 0
   HasListedAnswer = (named : Named) × (a : LineAnswer) × (named.config ≡ job.config)
       × IsListedLineAnswer files trusted_files job list named a
 
-  module _ (text : List ℕ) (known : files job.config ≡ Some (Some text)) where
-    abbrev Read : Result Configured ConfFault → Type 0
-    Read read = (named : Named) × (a : LineAnswer) × (named.config ≡ job.config)
-        × IsReadLineAnswer files trusted_files job list read named a
+  of_settings : (s : Configured) → AreSettings files (comparison_of job) (Ok s) → HasRead files (comparison_of job) (Ok s)
+      → HasListedAnswer
+  of_settings s are has =
+      let both = both_named files (comparison_of job) s refl has in
+      let old_path = value_of s.old_path both.0 in
+      let new_path = value_of s.new_path both.1 in
+      let named : Named = record { config = job.config; old_path = old_path.0; new_path = new_path.0 } in
+      let known : files job.config ≡ Some (Some has.text) =
+      are.known ∙ ap (λ (o : Option (List ℕ)). Some o) (has.text_is are.file are.known) in
+      let old = tells.databases has.text known s has.reads old_path.0 (inl old_path.1) in
+      let new = tells.databases has.text known s has.reads new_path.0 (inr new_path.1) in
+      let trusted_old = tells.trusted Old in
+      let trusted_new = tells.trusted New in
+      let run = RunsLines-exists limits list (asked_by s.options named) (asked_by s.options (trusted_of job)) old.0 new.0 trusted_old.0
+      trusted_new.0 (omega arith) in
+      let a = line_answer (lines_at_fault list (asked_by s.options named) (asked_by s.options (trusted_of job)) old.0 new.0 trusted_old.0
+      trusted_new.0) named (trusted_of job) run.0 in
+      let compares : ComparesForLines files trusted_files job list s named a = record {
+        old_is = old_path.1;
+        new_is = new_path.1;
+        old_file = old.0;
+        new_file = new.0;
+        trusted_old_file = trusted_old.0;
+        trusted_new_file = trusted_new.0;
+        old_told = old.1;
+        new_told = new.1;
+        trusted_old_told = trusted_old.1;
+        trusted_new_told = trusted_new.1;
+        run = run.0;
+        runs = run.1;
+        then_is = refl;
+      } in
+      (named, a, refl, record { settings = Ok s; are = are; then_is = compares })
 
-    of_read : (read : Result Configured ConfFault) → ReadsAs Compare job.before text job.after read → Read read
-    of_read (Err fault) reads = (only_config job.config, refused_lines (conf_line fault) 17, refl, refl)
-    of_read (Ok s) reads =
-        let both = what_is_compared_is_named job.before text job.after s reads in
-        let old_path = value_of s.old_path both.0 in
-        let new_path = value_of s.new_path both.1 in
-        let named : Named = record { config = job.config; old_path = old_path.0; new_path = new_path.0 } in
-        let old = tells.databases text known s reads old_path.0 (inl old_path.1) in
-        let new = tells.databases text known s reads new_path.0 (inr new_path.1) in
-        let trusted_old = tells.trusted Old in
-        let trusted_new = tells.trusted New in
-        let run = RunsLines-exists limits list (asked_by s.options named) (asked_by s.options (trusted_of job)) old.0 new.0 trusted_old.0
-        trusted_new.0 (omega arith) in
-        let a = line_answer (lines_at_fault list (asked_by s.options named) (asked_by s.options (trusted_of job)) old.0 new.0 trusted_old.0
-        trusted_new.0) named (trusted_of job) run.0 in
-        let compares : ComparesForLines files trusted_files job list s named a = record {
-          old_is = old_path.1;
-          new_is = new_path.1;
-          old_file = old.0;
-          new_file = new.0;
-          trusted_old_file = trusted_old.0;
-          trusted_new_file = trusted_new.0;
-          old_told = old.1;
-          new_told = new.1;
-          trusted_old_told = trusted_old.1;
-          trusted_new_told = trusted_new.1;
-          run = run.0;
-          runs = run.1;
-          then_is = refl;
-        } in
-        (named, a, refl, compares)
-
-    of_size : (large : Bool) → is_too_large text ≡ large → HasListedAnswer
-    of_size true large =
-        let named = only_config job.config in
-        let a = refused_lines too_large_line 17 in (
-          named,
-          a,
-          refl,
-          record {
-            file = Some text;
-            known = known;
-            then_is = subst (λ (b : Bool). IsSizedLineAnswer files trusted_files job list b text named a) (sym large) refl;
-          },
-        )
-    of_size false small =
-        let read = every_configuration_has_an_answer Compare job.before text job.after in
-        let answer = of_read read.0 read.1 in
-        let of_text : IsTextLineAnswer files trusted_files job list text answer.0 answer.1 =
-        record { read = read.0; reads = read.1; then_is = answer.3 } in (
-          answer.0,
-          answer.1,
-          answer.2,
-          record {
-            file = Some text;
-            known = known;
-            then_is = subst (λ (b : Bool). IsSizedLineAnswer files trusted_files job list b text answer.0 answer.1) (sym small) of_text;
-          },
-        )
-
-  of_file : (file : Option (List ℕ)) → files job.config ≡ Some file → HasListedAnswer
-  of_file None known = (
+  listed_answer : AreFound files (comparison_of job) → HasListedAnswer
+  listed_answer (inl none) = (
     only_config job.config,
-    refused_lines (unread_line job.config) 18,
+    refused_lines (no_settings_line job.config none.0) (no_settings_status none.0),
     refl,
-    record { file = None; known = known; then_is = refl },
+    record { settings = Err none.0; are = none.1; then_is = refl },
   )
-  of_file (Some text) known = of_size text known (is_too_large text) refl
+  listed_answer (inr found) = of_settings found.0 found.1 found.2
 
 -- a job has an answer where it is told what stands at the paths that are named
 pub lines_answered : (files trusted_files : Files) (job : LineJobText) → TellsForLines files trusted_files job
@@ -184,7 +147,8 @@ lines_answered files trusted_files job tells = go (read_list job.without) (has_r
   where
     go : (reading : Result (List RuleText) ListFault) → IsReading job.without reading → HasLineAnswer files trusted_files job
     go (Ok rules) reads =
-        let answer = of_file files trusted_files job (list_of job.without rules) tells tells.config.0 tells.config.1 in
+        let answer = listed_answer files trusted_files job (list_of job.without rules) tells
+        (settings_found files (comparison_of job) tells.config.0 tells.config.1) in
         let is : IsLineAnswer files trusted_files job answer.0 answer.1 =
         record { config_is = answer.2; reading = Ok rules; list_reads = reads; then_is = answer.3 } in
         (answer.0, answer.1, is)

@@ -1,11 +1,9 @@
 -- What the answer to a job of lines is, from what a caller knows of the arguments and of the files, and that
 -- there is one and only one.
-use Rattle.std.specs.Prelude.{◌≡◌, ℕ, Option, Some, None, List, Result, Ok, Err, Bool, true, false}
+use Rattle.std.specs.Prelude.{◌≡◌, ℕ, Option, Some, None, List, Result, Ok, Err, Bool}
 use Rattle.std.proofs.Common.{◌∙◌, refl, sym, rules}
 use Rattle.std.proofs.Math.Path.{subst}
 use Rattle.aide_conf.specs.Settings.{Configured}
-use Rattle.aide_conf.specs.declared.fault.ConfFault.{ConfFault}
-use Rattle.aide_conf.proofs.Laws.{no_configuration_has_two_answers}
 use Rattle.aide_db.specs.declared.limits.Limits.{Limits}
 use Rattle.aide_patterns.proofs.Laws.{one_reading}
 use Rattle.aide_patterns.specs.Line.{RuleText}
@@ -19,13 +17,16 @@ use Rattle.aide_merge.specs.declared.run_fault.RunFault.{RunFault}
 use Rattle.aide_merge.proofs.RightAnswers.{RunsOverBy-unique}
 use Rattle.aide_site.specs.Answer.{Named, asked_by, limits}
 use Rattle.aide_line_session.specs.AsksForLines.{AsksForLines}
-use Rattle.aide_line_session.specs.LineAnswer.{ComparesForLines, HasLineAnswer, IsLineAnswer, IsFileLineAnswer, IsReadLineAnswer}
-use Rattle.aide_line_session.specs.LineAnswer.{IsGivenLineAnswer, IsListedLineAnswer, IsSizedLineAnswer, IsTextLineAnswer}
+use Rattle.aide_line_session.specs.LineAnswer.{ComparesForLines, HasLineAnswer, IsGivenLineAnswer, IsLineAnswer, IsListedLineAnswer}
+use Rattle.aide_line_session.specs.LineAnswer.{IsSettingsLineAnswer}
 use Rattle.aide_line_session.specs.LineAnswer.{LineAnswer, TellsForLines, line_answer, lines_at_fault, refused_lines, trusted_of}
-use Rattle.aide_site.specs.Files.{Files, is_too_large}
+use Rattle.aide_site.specs.Files.{Files}
+use Rattle.aide_site.specs.JobSettings.{AreOfText, comparison_of}
+use Rattle.aide_site.specs.declared.job_config.NoSettings.{NoSettings}
 use Rattle.aide_line_session.specs.GivenList.{list_line, list_of}
 use Rattle.aide_line_session.proofs.LineExistence.{lines_answered}
 use Rattle.aide_line_session.proofs.LineEndings.{list_is}
+use Rattle.aide_site.proofs.AnswerSteps.{one_file, one_settings}
 use Rattle.aide_site.proofs.Endings.{same_some}
 use Rattle.aide_line_run.specs.Lines.{lines_of_texts}
 use Rattle.aide_line_run.specs.RunEnds.{RunsLines, answer_by, over_sides}
@@ -61,12 +62,15 @@ line_answer_by_what_is_asked files trusted_files words job list named settings o
       runs = runs;
       then_is = refl;
     } in
-    let of_text : IsTextLineAnswer files trusted_files job list asks.config named a =
-    record { read = Ok settings; reads = asks.accepted; then_is = compared } in
     let of_list : IsListedLineAnswer files trusted_files job list named a = record {
-      file = Some asks.config;
-      known = asks.config_there;
-      then_is = subst (λ (b : Bool). IsSizedLineAnswer files trusted_files job list b asks.config named a) (sym asks.small) of_text;
+      settings = Ok settings;
+      are = record {
+        file = Some asks.config;
+        known = asks.config_there;
+        are = subst (λ (b : Bool). AreOfText (comparison_of job) asks.config b (Ok settings)) (sym asks.small)
+            (Ok settings, asks.accepted, refl);
+      };
+      then_is = compared;
     } in
     record {
       config_is = asks.config_is;
@@ -89,10 +93,6 @@ a_fault_of_the_list_is_the_answer files trusted_files job named fault config_is 
     record { config_is = config_is; reading = Err fault; list_reads = refused; then_is = refl }
 
 -- ---- there is only one
-
--- what is known of a file is one thing
-one_file : (there : Option (Option (List ℕ))) (one other : Option (List ℕ)) → there ≡ Some one → there ≡ Some other → other ≡ one
-one_file there one other p q = cc
 
 one_answer_by : (compared trusted : Result Outcome RunFault) (over : Option Report) (r s : Result Report PairFault)
     → answer_by compared trusted over r → answer_by compared trusted over s → r ≡ s
@@ -146,31 +146,20 @@ module _ (files trusted_files : Files) (job : LineJobText) (list : ListRead) whe
       (trusted_of job) (run i))
       ∙ sym q.then_is
 
-  one_read : (read : Result Configured ConfFault) (named other : Named) (a b : LineAnswer) → other.config ≡ named.config
-      → IsReadLineAnswer files trusted_files job list read named a → IsReadLineAnswer files trusted_files job list read other b → a ≡ b
-  one_read (Err fault) named other a b same p q = p ∙ sym q
-  one_read (Ok s) named other a b same p q =
+  one_of_settings : (settings : Result Configured NoSettings) (named other : Named) (a b : LineAnswer) → other.config ≡ named.config
+      → IsSettingsLineAnswer files trusted_files job list settings named a
+      → IsSettingsLineAnswer files trusted_files job list settings other b → a ≡ b
+  one_of_settings (Err why) named other a b same p q = p ∙ sym q
+  one_of_settings (Ok s) named other a b same p q =
       one_comparison s named a b p
       (subst (λ (n : Named). ComparesForLines files trusted_files job list s n b) (same_named s named other a b same p q) q)
 
-  one_text : (text : List ℕ) (named other : Named) (a b : LineAnswer) → other.config ≡ named.config
-      → IsTextLineAnswer files trusted_files job list text named a → IsTextLineAnswer files trusted_files job list text other b → a ≡ b
-  one_text text named other a b same p q = search (rules, one_read, no_configuration_has_two_answers)
-
-  one_size : (large : Bool) (text : List ℕ) (named other : Named) (a b : LineAnswer) → other.config ≡ named.config
-      → IsSizedLineAnswer files trusted_files job list large text named a
-      → IsSizedLineAnswer files trusted_files job list large text other b → a ≡ b
-  one_size true text named other a b same p q = p ∙ sym q
-  one_size false text named other a b same p q = one_text text named other a b same p q
-
-  one_of_file : (file : Option (List ℕ)) (named other : Named) (a b : LineAnswer) → other.config ≡ named.config
-      → IsFileLineAnswer files trusted_files job list file named a → IsFileLineAnswer files trusted_files job list file other b → a ≡ b
-  one_of_file None named other a b same p q = p ∙ sym q
-  one_of_file (Some text) named other a b same p q = one_size (is_too_large text) text named other a b same p q
-
   one_listed : (named other : Named) (a b : LineAnswer) → other.config ≡ named.config
       → IsListedLineAnswer files trusted_files job list named a → IsListedLineAnswer files trusted_files job list other b → a ≡ b
-  one_listed named other a b same p q = search (rules, one_of_file, one_file)
+  one_listed named other a b same p q =
+      one_of_settings p.settings named other a b same p.then_is
+      (subst (λ (r : Result Configured NoSettings). IsSettingsLineAnswer files trusted_files job list r other b)
+      (one_settings (comparison_of job) q.settings p.settings files q.are p.are) q.then_is)
 
 module _ (files trusted_files : Files) (job : LineJobText) where
   one_given : (reading : Result (List RuleText) ListFault) (named other : Named) (a b : LineAnswer) → other.config ≡ named.config

@@ -20,16 +20,17 @@ use Rattle.aide_merge.specs.declared.run_fault.RunFault.TheVariants.{Open, Datab
 use Rattle.aide_site.specs.Answer.{Named, asked_by, limits}
 use Rattle.aide_line_session.specs.LineEnds.{LineView, ClosesCompared, ComparesPairs, EarlyStop, EndsLinesBy, IsOfReliableFiles}
 use Rattle.aide_line_session.specs.LineEnds.{MeansOfPair, StopCause}
-use Rattle.aide_line_session.specs.LineEnds.{config_refused, config_too_large, config_unread, list_refused, no_memory_left}
+use Rattle.aide_line_session.specs.LineEnds.{list_refused, no_settings}
 use Rattle.aide_line_session.specs.LineSession.{line_view}
 use Rattle.aide_site.specs.Closing.{Course, HasText}
 use Rattle.aide_site.specs.Files.{Files}
+use Rattle.aide_site.specs.JobSettings.{comparison_of}
 use Rattle.aide_site.specs.Pointing.{KeepsFiles}
 use Rattle.aide_site.specs.Session.{view_between}
 use Rattle.aide_line_session.specs.Trusted.{trusted_at}
 use Rattle.aide_line_session.specs.code.LineParts.{IsPointed, named_by}
 use Rattle.aide_site.specs.code.Config.{OpensOneFile}
-use Rattle.aide_site.proofs.Closings.{run_cause}
+use Rattle.aide_site.proofs.Closings.{no_settings_by, run_cause}
 use Rattle.aide_line_session.proofs.Causes.{caused_of}
 use Rattle.aide_site.proofs.Endings.{rose_later}
 use Rattle.aide_text.specs.declared.sink.Sink.{Ghosts as AnySink}
@@ -243,11 +244,11 @@ closes_as list named trusted other options wish status site v same same_wish clo
 
 stop_later : (files : Files) (is_reliable : Bool) (job : LineJobText) (site more : Type 0) (stop : EarlyStop) → (site → more)
     → StopCause files is_reliable job site stop → StopCause files is_reliable job more stop
-stop_later files is_reliable job site more no_memory_left then cause = tt
 stop_later files is_reliable job site more (list_refused fault) then cause = cause
-stop_later files is_reliable job site more config_unread then cause = (cause.0, then cause.1, cause.2)
-stop_later files is_reliable job site more config_too_large then cause = cause
-stop_later files is_reliable job site more (config_refused fault) then cause = cause
+stop_later files is_reliable job site more (no_settings why) then cause = elim cause [
+  | inl memory ↦ inl memory
+  | inr because ↦ inr (because.0, no_settings_by files is_reliable (comparison_of job) site more why then because.1)
+]
 
 -- the end of a session as it is seen from an earlier moment
 pub ends_seen : (job : LineJobText) (status before later : ℕ) (v now : LineView) → before ≤ later → now ≡ v

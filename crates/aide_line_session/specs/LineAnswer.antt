@@ -1,11 +1,9 @@
 -- The answer of a session with a trusted pair: its output, its error lines and its status. The
 -- job and the files determine it.
-use Rattle.std.specs.Prelude.{◌≡◌, ◌⊎◌, ℕ, Bool, true, false, List, [], Ok, Err, Result, Option}
-use Rattle.std.specs.Prelude.{Some, None}
+use Rattle.std.specs.Prelude.{◌≡◌, ◌⊎◌, ℕ, List, [], Ok, Err, Result, Option, Some}
 use Rattle.std.specs.Io.KnownBytes.{Appends}
 use Rattle.aide_conf.specs.ReadResult.{ReadsAs}
 use Rattle.aide_conf.specs.Settings.{Configured}
-use Rattle.aide_conf.specs.declared.fault.ConfFault.{ConfFault}
 use Rattle.aide_conf.specs.declared.task.Need.TheVariants.{Compare}
 use Rattle.aide_db.specs.Side.{by_side}
 use Rattle.aide_db.specs.declared.side.Side.{Side}
@@ -17,10 +15,12 @@ use Rattle.aide_merge.specs.FaultStatus.{fault_status}
 use Rattle.aide_merge.specs.Outcomes.{status_of}
 use Rattle.aide_merge.specs.RightAnswer.{Report}
 use Rattle.aide_site.specs.Answer.{Named, asked_by, limits}
-use Rattle.aide_site.specs.Files.{Files, is_too_large}
+use Rattle.aide_site.specs.Files.{Files}
+use Rattle.aide_site.specs.JobSettings.{AreSettings, comparison_of, no_settings_line}
+use Rattle.aide_site.specs.JobSettings.{no_settings_status}
+use Rattle.aide_site.specs.declared.job_config.NoSettings.{NoSettings}
 use Rattle.aide_line_session.specs.GivenList.{list_line, list_of}
-use Rattle.aide_site.specs.Lines.{conf_line, outcome_lines, run_fault_line, too_large_line}
-use Rattle.aide_site.specs.Lines.{unread_line}
+use Rattle.aide_site.specs.Lines.{outcome_lines, run_fault_line}
 use Rattle.aide_site.specs.declared.whose.Whose.TheVariants as whose
 use Rattle.aide_text.specs.Sent.{SendsPart}
 use Rattle.aide_line_run.specs.BeforeFault.{AreBeforeFaults, FourTexts}
@@ -145,46 +145,21 @@ pub record ComparesForLines (files trusted_files : Files) (job : LineJobText) (l
       (asked_by s.options (trusted_of job)) old_file new_file trusted_old_file trusted_new_file)
       named (trusted_of job) run
 
--- the answer, by whether the configuration reads as settings or has a fault
-abbrev pub IsReadLineAnswer : (files trusted_files : Files) → LineJobText → ListRead
-    → Result Configured ConfFault → Named → LineAnswer
+-- the answer, by the settings of the job or by why it has none
+abbrev pub IsSettingsLineAnswer : (files trusted_files : Files) → LineJobText → ListRead
+    → Result Configured NoSettings → Named → LineAnswer
     → Type 0
-IsReadLineAnswer files trusted_files job list (Ok s) named a =
+IsSettingsLineAnswer files trusted_files job list (Ok s) named a =
     ComparesForLines files trusted_files job list s named a
-IsReadLineAnswer files trusted_files job list (Err fault) named a =
-    a ≡ refused_lines (conf_line fault) 17
-
--- the answer if the configuration has this text
-pub record IsTextLineAnswer (files trusted_files : Files) (job : LineJobText) (list : ListRead)
-    (text : List ℕ) (named : Named) (a : LineAnswer) : Type 0 where
-  pub read : Result Configured ConfFault
-  pub reads : ReadsAs Compare job.before text job.after read
-  pub then_is : IsReadLineAnswer files trusted_files job list read named a
-
--- the answer, by whether the configuration is too large
-abbrev pub IsSizedLineAnswer : (files trusted_files : Files) → LineJobText → ListRead → Bool
-    → List ℕ → Named → LineAnswer
-    → Type 0
-IsSizedLineAnswer files trusted_files job list true text named a =
-    a ≡ refused_lines too_large_line 17
-IsSizedLineAnswer files trusted_files job list false text named a =
-    IsTextLineAnswer files trusted_files job list text named a
-
--- the answer, by what is at the configuration's path
-abbrev pub IsFileLineAnswer : (files trusted_files : Files) → LineJobText → ListRead
-    → Option (List ℕ) → Named → LineAnswer
-    → Type 0
-IsFileLineAnswer files trusted_files job list None named a =
-    a ≡ refused_lines (unread_line job.config) 18
-IsFileLineAnswer files trusted_files job list (Some text) named a =
-    IsSizedLineAnswer files trusted_files job list (is_too_large text) text named a
+IsSettingsLineAnswer files trusted_files job list (Err why) named a =
+    a ≡ refused_lines (no_settings_line job.config why) (no_settings_status why)
 
 -- the answer if this was read of the list: it is known what is at the configuration's path
 pub record IsListedLineAnswer (files trusted_files : Files) (job : LineJobText) (list : ListRead)
     (named : Named) (a : LineAnswer) : Type 0 where
-  pub file : Option (List ℕ)
-  pub known : files job.config ≡ Some file
-  pub then_is : IsFileLineAnswer files trusted_files job list file named a
+  pub settings : Result Configured NoSettings
+  pub are : AreSettings files (comparison_of job) settings
+  pub then_is : IsSettingsLineAnswer files trusted_files job list settings named a
 
 -- the answer, by whether the list has rules or a fault
 abbrev pub IsGivenLineAnswer : (files trusted_files : Files) → LineJobText

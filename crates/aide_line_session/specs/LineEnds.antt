@@ -1,12 +1,9 @@
 -- How a session with a trusted pair ends.
-use Rattle.std.specs.Prelude.{◌≡◌, ◌≤◌, ℕ, Bool, true, false, Ok, Err, Result, Option, Some, None}
+use Rattle.std.specs.Prelude.{◌≡◌, ◌≤◌, ℕ, Bool, true, Ok, Err, Result, Option, Some, None}
 use Rattle.std.specs.Prelude.{List, [], IfErr, IfOk, OnOk, ◌⊎◌, max, ⊤}
 use Rattle.std.specs.Io.KnownBytes.{Appends}
-use Rattle.aide_conf.specs.ReadResult.{ReadsAs}
 use Rattle.aide_conf.specs.Settings.{Configured}
-use Rattle.aide_conf.specs.declared.fault.ConfFault.{ConfFault}
 use Rattle.aide_conf.specs.declared.options.Options.{Options}
-use Rattle.aide_conf.specs.declared.task.Need.TheVariants.{Compare}
 use Rattle.aide_db.specs.Side.{by_side}
 use Rattle.aide_db.specs.declared.fault.DbFault.{DbFault}
 use Rattle.aide_db.specs.declared.side.Side.{Side}
@@ -28,11 +25,14 @@ use Rattle.aide_line_session.specs.LineAnswer.{LineAnswer, HasWritten, HasBegun,
 use Rattle.aide_line_session.specs.LineAnswer.{pair_fault_status, trusted_of}
 use Rattle.aide_site.specs.Closing.{AreBothSound, Course, HasText, RunCause}
 use Rattle.aide_site.specs.Ends.{Failure, FailureCause, Puts, Sinks, failure_line}
-use Rattle.aide_site.specs.Files.{Files, IsLarge, is_too_large}
+use Rattle.aide_site.specs.Files.{Files}
+use Rattle.aide_site.specs.JobSettings.{HasRead, NoSettingsCause, comparison_of, no_settings_line}
+use Rattle.aide_site.specs.JobSettings.{no_settings_status}
+use Rattle.aide_site.specs.declared.job_config.NoSettings.{NoSettings}
+use Rattle.aide_site.specs.declared.job_config.NoSettings.TheVariants.{Memory}
 use Rattle.aide_line_session.specs.GivenList.{IsList, IsListOf, list_line}
 use Rattle.aide_site.specs.Held.{HoldsWithin, most_held}
-use Rattle.aide_site.specs.Lines.{conf_line, database_line, memory_line, open_line, outcome_lines}
-use Rattle.aide_site.specs.Lines.{too_large_line, unread_line}
+use Rattle.aide_site.specs.Lines.{database_line, memory_line, open_line, outcome_lines}
 use Rattle.aide_site.specs.declared.whose.Whose.TheVariants.{Trusted}
 use Rattle.aide_text.specs.Failures.{CountsFlush}
 use Rattle.aide_line_run.specs.BeforeFault.{AreBeforeFaults, FourTexts}
@@ -128,49 +128,26 @@ EndsWithin a named trusted status sinks site trusted_site out = WholeLines a sta
 
 -- why a session stops before it opens a database
 pub data EarlyStop : Type 0 where
-  no_memory_left : EarlyStop
   list_refused : ListFault → EarlyStop
-  config_unread : EarlyStop
-  config_too_large : EarlyStop
-  config_refused : ConfFault → EarlyStop
+  no_settings : NoSettings → EarlyStop
 
 -- the status of such a stop
 abbrev pub stop_status : EarlyStop → ℕ
-stop_status no_memory_left = 22
 stop_status (list_refused fault) = 17
-stop_status config_unread = 18
-stop_status config_too_large = 17
-stop_status (config_refused fault) = 17
+stop_status (no_settings why) = no_settings_status why
 
 -- the line of such a stop on standard error
 abbrev pub stop_line : LineJobText → EarlyStop → List ℕ
-stop_line job no_memory_left = memory_line
 stop_line job (list_refused fault) = list_line fault
-stop_line job config_unread = unread_line job.config
-stop_line job config_too_large = too_large_line
-stop_line job (config_refused fault) = conf_line fault
+stop_line job (no_settings why) = no_settings_line job.config why
 
--- The configuration of the job reads as this. If the file is known, the text that was read is the
--- file's.
-pub record HasReadForLines (files : Files) (job : LineJobText)
-    (read : Result Configured ConfFault) : Type 0 where
-  pub text : List ℕ
-  pub text_is : (file : Option (List ℕ)) → files job.config ≡ Some file → file ≡ Some text
-  pub small : is_too_large text ≡ false
-  pub reads : ReadsAs Compare job.before text job.after read
-
--- The cause of an early stop. A fault of the list comes before those of the configuration. A
--- reliable site fails to give a configuration only if it is not there.
+-- The cause of an early stop. Memory may run out at any time. A fault of the list comes before those of the
+-- configuration.
 abbrev pub StopCause : Files → (is_reliable : Bool) → LineJobText → (site : Type 0) → EarlyStop
     → Type 0
-StopCause files is_reliable job site no_memory_left = ⊤
 StopCause files is_reliable job site (list_refused fault) = HasFirstFault job.without fault
-StopCause files is_reliable job site config_unread =
-    IsList job.without × site × (is_reliable ≡ true → files job.config ≡ Some None)
-StopCause files is_reliable job site config_too_large = IsList job.without
-    × ((file : Option (List ℕ)) → files job.config ≡ Some file → IsLarge file)
-StopCause files is_reliable job site (config_refused fault) =
-    IsList job.without × HasReadForLines files job (Err fault)
+StopCause files is_reliable job site (no_settings why) = (why ≡ Memory)
+    ⊎ (IsList job.without × NoSettingsCause files is_reliable (comparison_of job) site why)
 
 -- The session stops with this status and this line. It has opened no database and written nothing,
 -- and neither desk has held more than before.
@@ -312,7 +289,7 @@ pub record ClosesLines (job : LineJobText) (status before : ℕ) (v : LineView) 
   pub list : ListRead
   pub listed : IsListOf job.without list
   pub settings : Configured
-  pub read : HasReadForLines v.files job (Ok settings)
+  pub read : HasRead v.files (comparison_of job) (Ok settings)
   pub named : Named
   pub config_is : named.config ≡ job.config
   pub old_is : settings.old_path ≡ Some named.old_path

@@ -15,15 +15,17 @@ use Rattle.aide_merge.specs.declared.run_fault.RunFault.{RunFault}
 use Rattle.aide_merge.specs.declared.run_fault.RunFault.TheVariants.{Database}
 use Rattle.aide_report_specs.specs.Given.{GiveOneDigest}
 use Rattle.aide_report_specs.specs.Runs.{Runs}
-use Rattle.aide_site.specs.Answer.{Answer, Named, need_of, limits, asked_by, answer_of_run, IsAnswerBy}
-use Rattle.aide_site.specs.Answer.{Compares, IsJobAnswerBy, IsReadAnswerBy, IsSizedAnswerBy}
-use Rattle.aide_site.specs.Answer.{IsTextAnswerBy}
+use Rattle.aide_site.specs.Answer.{Answer, Named, limits, asked_by, answer_of_run, Compares, IsAnswerBy, IsJobAnswerBy}
+use Rattle.aide_site.specs.Answer.{IsSettingsAnswerBy}
 use Rattle.aide_report_session.specs.Asks.{Asks}
 use Rattle.aide_site.specs.Closing.{ClosesBy, Closing, ClosingOpens, ClosingOutput, Course, closing_status}
-use Rattle.aide_site.specs.Closing.{bad_run, good_config, good_run}
+use Rattle.aide_site.specs.Closing.{bad_run, good_config, good_run, no_settings}
 use Rattle.aide_site.specs.Ends.{Sinks}
 use Rattle.aide_site.specs.Existence.{HasSessionAnswerBy, TellsNamed}
 use Rattle.aide_site.specs.Files.{Files}
+use Rattle.aide_site.specs.JobSettings.{AreOfText, ReadsJobAs, need_of, no_settings_status}
+use Rattle.aide_site.specs.declared.job_config.NoSettings.{NoSettings}
+use Rattle.aide_site.specs.declared.job_config.NoSettings.TheVariants.{Memory}
 use Rattle.aide_site.specs.Page.{Paged, known_of, none_waits}
 use Rattle.aide_site.specs.Says.{Says}
 use Rattle.aide_words.specs.Job.{JobText, job_of}
@@ -47,17 +49,17 @@ answer_by_what_is_asked says files words named settings old new run asks runs =
       new_told = asks.new_there;
       then_is = (run, runs, refl);
     } in
-    let of_text : IsTextAnswerBy says files asks.job asks.config named a = record {
-      read = Ok settings;
-      reads = subst (λ (b : Bool). ReadsAs (need_of b) asks.job.before asks.config asks.job.after (Ok settings))
-          (sym asks.compares) asks.accepted;
-      then_is = subst (λ (b : Bool). IsReadAnswerBy says files b (Ok settings) named a) (sym asks.compares) compared;
-    } in
+    let reads : ReadsJobAs asks.job asks.config (Ok settings) =
+    subst (λ (b : Bool). ReadsAs (need_of b) asks.job.before asks.config asks.job.after (Ok settings)) (sym asks.compares) asks.accepted in
     let of_job : IsJobAnswerBy says files asks.job named a = record {
       config_is = asks.config_is;
-      file = Some asks.config;
-      known = asks.config_there;
-      then_is = subst (λ (b : Bool). IsSizedAnswerBy says files asks.job b asks.config named a) (sym asks.small) of_text;
+      settings = Ok settings;
+      are = record {
+        file = Some asks.config;
+        known = asks.config_there;
+        are = subst (λ (b : Bool). AreOfText asks.job asks.config b (Ok settings)) (sym asks.small) (Ok settings, reads, refl);
+      };
+      then_is = subst (λ (b : Bool). IsSettingsAnswerBy says files (Ok settings) b named a) (sym asks.compares) compared;
     } in
     subst (λ (o : Option JobText). IsAnswerBy says files o named a) (sym asks.job_is) of_job
 
@@ -94,6 +96,10 @@ no_fault_so_low : (fault : RunFault) → fault_status fault ≤ 7 → ⊥
 no_fault_so_low (Database fault) low = no_kind_so_low fault.kind low
 no_fault_so_low _ low = omega (arith, low)
 
+no_stop_so_low : (why : NoSettings) → no_settings_status why ≤ 7 → ⊥
+no_stop_so_low Memory low = omega (arith, low)
+no_stop_so_low _ low = omega (arith, low)
+
 none_opened : (course : Course) → course.opened_after ≡ course.opened_before
     → GiveOneDigest course.gives_after course.opened_before course.opened_after
 none_opened course same = λ side number other text more is also.
@@ -105,6 +111,7 @@ one_digest_at : (says : Says) (files : Files) (named : Named) (closing : Closing
 one_digest_at says files named (good_run options outcome) course c d low output opens = opens.1
 one_digest_at says files named (good_config s) course c d low output opens = none_opened course output.1
 one_digest_at says files named (bad_run options fault) course c d low output opens = absurd (no_fault_so_low fault low)
+one_digest_at says files named (no_settings why) course c d low output opens = absurd (no_stop_so_low why low)
 one_digest_at says files named _ course c d low output opens = absurd (omega (arith, low))
 
 -- If a session ends with a status of at most 7, all openings of a side gave bytes of one SHA-256: by its clause `closes`.

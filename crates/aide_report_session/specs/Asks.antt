@@ -2,8 +2,9 @@
 use Rattle.std.specs.Prelude.{ℕ, ◌≡◌, Some, List, Ok, true, false}
 use Rattle.aide_conf.specs.Settings.{Configured}
 use Rattle.aide_conf.specs.ReadResult.{ReadsAs}
-use Rattle.aide_site.specs.Answer.{Named, need_of}
+use Rattle.aide_site.specs.Answer.{Named}
 use Rattle.aide_site.specs.Files.{Files, is_too_large}
+use Rattle.aide_site.specs.JobSettings.{need_of}
 use Rattle.aide_words.specs.Job.{JobText, job_of}
 
 -- The arguments ask for a comparison. The configuration is at the path that they name, and is

@@ -1,9 +1,8 @@
 -- How a session closes over any site.
-use Rattle.std.proofs.Common.{◌≡◌, ◌∙◌, ℕ, ◌≤◌, List, [], Option, Some, None, refl, sym, Bool, true, false, Ok, Err, rules}
+use Rattle.std.proofs.Common.{◌≡◌, ◌∙◌, ℕ, ◌≤◌, List, [], Option, Some, None, refl, sym, Bool, true, false, Ok, inl, inr, rules}
 use Rattle.std.specs.Prelude.{Result, ⊤}
 use Rattle.std.specs.Io.KnownBytes.{Keeps}
 use Rattle.std.proofs.Math.Path.{subst}
-use Rattle.aide_conf.specs.ReadResult.{ReadsAs}
 use Rattle.aide_conf.specs.Settings.{Configured}
 use Rattle.aide_conf.specs.declared.fault.ConfFault.{ConfFault}
 use Rattle.aide_db.specs.declared.side.Side.{Side}
@@ -16,19 +15,20 @@ use Rattle.aide_merge.specs.RunFaults.{IsCaused, IsRight}
 use Rattle.aide_merge.specs.RightAnswer.{TellsSide}
 use Rattle.aide_merge.specs.declared.run_fault.RunFault.{RunFault}
 use Rattle.aide_merge.specs.declared.run_fault.RunFault.TheVariants.{Open, Database, Changed, Write}
-use Rattle.aide_site.specs.Answer.{Named, limits, need_of}
+use Rattle.aide_site.specs.Answer.{Named, limits}
 use Rattle.aide_site.specs.Closing.{Asks, AsksAndReads, AsksToCompare, ClosesBy, Closing, Course, course_between}
 use Rattle.aide_site.specs.Closing.{ClosingCause, ClosingOpens, ClosingOutput, HasText, IsTold, IsUntold, RunCause, untold_config}
 use Rattle.aide_site.specs.Closing.{closing_line, closing_status}
-use Rattle.aide_site.specs.Closing.{no_job, no_memory, no_config, large_config, bad_config, good_config, bad_run}
-use Rattle.aide_site.specs.Closing.{good_run}
+use Rattle.aide_site.specs.Closing.{no_job, no_settings, good_config, bad_run, good_run}
 use Rattle.aide_site.specs.Ends.{Sinks}
-use Rattle.aide_site.specs.Files.{Files, IsLarge}
+use Rattle.aide_site.specs.Files.{Files}
 use Rattle.aide_site.specs.Says.{Says, usage_by}
 use Rattle.aide_text.specs.declared.sink.Sink.{Ghosts as AnySink}
 use Rattle.aide_words.specs.Job.{JobText}
-use Rattle.aide_site.specs.Lines.{memory_line, unread_line, too_large_line, conf_line, write_line}
-use Rattle.aide_site.specs.code.JobSettings.{HasRead}
+use Rattle.aide_site.specs.Lines.{memory_line, write_line}
+use Rattle.aide_site.specs.JobSettings.{HasRead, NoSettingsCause, no_settings_line, no_settings_status}
+use Rattle.aide_site.specs.declared.job_config.NoSettings.{NoSettings}
+use Rattle.aide_site.specs.declared.job_config.NoSettings.TheVariants.{Memory, Unread, TooLarge, Refused}
 use Rattle.aide_site.specs.Put.{Put}
 use Rattle.aide_site.proofs.Endings.{rose_later, sinks}
 use Rattle.aide_site.proofs.PutLemmas.{appends_none, put_none, put_passed}
@@ -73,30 +73,22 @@ pub closes_starved : (says : Says) (files : Files) (wanted : Option JobText) (d 
     → course.opened_after ≡ course.opened_before → course.flushes_after ≡ course.flushes_before
     → ClosesBy says files wanted 22 (sinks d d e f m n) course site out
 closes_starved says files wanted d e f m n course site out put unopened unflushed =
-    closes_as says files wanted no_memory (only_config []) d d e f m n course site out
-    tt (appends_none d, unopened, unflushed) tt unopened put
+    closes_as says files wanted (no_settings Memory) (only_config []) d d e f m n course site out
+    (inl refl) (appends_none d, unopened, unflushed) tt unopened put
 
 asks : (wanted : Option JobText) (job : JobText) → wanted ≡ Some job → Asks wanted (only_config job.config)
 asks wanted job is = record { job = job; job_is = is; config_is = refl }
 
-pub closes_unread : (says : Says) (files : Files) (wanted : Option JobText) (job : JobText) (d e f : Option (List ℕ)) (m n : ℕ)
-    (course : Course) (site out : Type 0)
-    → wanted ≡ Some job → site
-    → Put (unread_line job.config) e f m n → course.opened_after ≡ course.opened_before
-    → course.flushes_after ≡ course.flushes_before → ClosesBy says files wanted 18 (sinks d d e f m n) course site out
-closes_unread says files wanted job d e f m n course site out is failed put unopened unflushed =
-    closes_as says files wanted no_config (only_config job.config) d d e f m n course site out
-    (asks wanted job is, failed) (appends_none d, unopened, unflushed) tt unopened put
-
-pub closes_large : (says : Says) (files : Files) (wanted : Option JobText) (job : JobText) (d e f : Option (List ℕ)) (m n : ℕ)
-    (course : Course) (site out : Type 0)
-    → wanted ≡ Some job
-    → ((file : Option (List ℕ)) → files job.config ≡ Some file → IsLarge file) → Put too_large_line e f m n
+-- a closing without settings
+pub closes_stopped : (says : Says) (files : Files) (wanted : Option JobText) (job : JobText) (why : NoSettings) (d e f : Option (List ℕ))
+    (m n : ℕ) (course : Course) (site out : Type 0)
+    → wanted ≡ Some job → NoSettingsCause files false job site why → Put (no_settings_line job.config why) e f m n
     → course.opened_after ≡ course.opened_before → course.flushes_after ≡ course.flushes_before
-    → ClosesBy says files wanted 17 (sinks d d e f m n) course site out
-closes_large says files wanted job d e f m n course site out is large put unopened unflushed =
-    closes_as says files wanted large_config (only_config job.config) d d e f m n course site out
-    (asks wanted job is, large) (appends_none d, unopened, unflushed) tt unopened put
+    → ClosesBy says files wanted (no_settings_status why) (sinks d d e f m n) course site out
+unfolding asks
+closes_stopped says files wanted job why d e f m n course site out is cause put unopened unflushed =
+    closes_as says files wanted (no_settings why) (only_config job.config) d d e f m n course site out
+    (inr (asks wanted job is, cause)) (appends_none d, unopened, unflushed) tt unopened put
 
 -- the configuration of a job was read, and reads as this
 pub asks_and_reads : (files later : Files) (wanted : Option JobText) (job : JobText) (compare : Bool)
@@ -108,20 +100,8 @@ asks_and_reads files later wanted job compare read same is compare_is has = reco
   job_is = is;
   config_is = refl;
   compare_is = compare_is;
-  text = has.text;
-  text_is = λ file known. has.text_is file (subst (λ (f : Files). f job.config ≡ Some file) same known);
-  small = has.small;
-  reads = subst (λ (b : Bool). ReadsAs (need_of b) job.before has.text job.after read) compare_is has.reads;
+  has = subst (λ (f : Files). HasRead f job read) (sym same) has;
 }
-
-pub closes_bad_config : (says : Says) (files : Files) (wanted : Option JobText) (config : List ℕ) (compare : Bool) (fault : ConfFault)
-    (d e f : Option (List ℕ)) (m n : ℕ) (course : Course) (site out : Type 0)
-    → AsksAndReads files wanted config compare (Err fault) → Put (conf_line fault) e f m n
-    → course.opened_after ≡ course.opened_before → course.flushes_after ≡ course.flushes_before
-    → ClosesBy says files wanted 17 (sinks d d e f m n) course site out
-closes_bad_config says files wanted config compare fault d e f m n course site out read put unopened unflushed =
-    closes_as says files wanted (bad_config fault) (only_config config) d d e f m n course site out
-    (compare, read) (appends_none d, unopened, unflushed) tt unopened put
 
 pub closes_told : (says : Says) (files : Files) (wanted : Option JobText) (config : List ℕ) (s : Configured) (c d e : Option (List ℕ))
     (m : ℕ) (course : Course) (site out : Type 0)
@@ -159,16 +139,23 @@ run_cause_by files named (Database fault) site more out then cause = (λ is. the
 run_cause_by files named (Changed side) site more out then cause = cause
 run_cause_by files named (Write written) site more out then cause = cause
 
+pub no_settings_by : (files : Files) (reliable : Bool) (job : JobText) (site more : Type 0) (why : NoSettings) → (site → more)
+    → NoSettingsCause files reliable job site why → NoSettingsCause files reliable job more why
+no_settings_by files reliable job site more Memory then cause = tt
+no_settings_by files reliable job site more Unread then cause = (then cause.0, cause.1)
+no_settings_by files reliable job site more TooLarge then cause = cause
+no_settings_by files reliable job site more (Refused fault) then cause = cause
+
 cause_by : (files : Files) (wanted : Option JobText) (named : Named) (closing : Closing) (site more out : Type 0)
     → (site → more) → ClosingCause files wanted named closing site out
     → ClosingCause files wanted named closing more out
-cause_by files wanted named no_config site more out then cause = (cause.0, then cause.1)
+cause_by files wanted named (no_settings why) site more out then cause = elim cause [
+  | inl memory ↦ inl memory
+  | inr because ↦ inr (because.0, no_settings_by files false because.0.job site more why then because.1)
+]
 cause_by files wanted named (bad_run options fault) site more out then cause =
     (cause.0, run_cause_by files named fault site more out then cause.1)
 cause_by files wanted named no_job site more out then cause = cause
-cause_by files wanted named no_memory site more out then cause = cause
-cause_by files wanted named large_config site more out then cause = cause
-cause_by files wanted named (bad_config fault) site more out then cause = cause
 cause_by files wanted named (good_config s) site more out then cause = cause
 cause_by files wanted named (untold_config s) site more out then cause = cause
 cause_by files wanted named (good_run options outcome) site more out then cause = cause
@@ -211,7 +198,9 @@ pub closes_over : (says : Says) (files later : Files) (wanted : Option JobText) 
     → ClosesBy says later wanted status s later_course (Rose later_count end) out
     → ClosesBy says files wanted status s course (Rose count end) out
 closes_over says files later wanted status s course later_course count later_count end out same same_course same_count closes =
-    search (rules, same_course)
+    subst (λ (f : Files). ClosesBy says f wanted status s course (Rose count end) out) same
+    (subst (λ (c : Course). ClosesBy says later wanted status s c (Rose count end) out) same_course
+    (subst (λ (k : ℕ). ClosesBy says later wanted status s later_course (Rose k end) out) same_count closes))
 
 pub asks_over : (files later : Files) (wanted : Option JobText) (named : Named) → later ≡ files
     → AsksToCompare files wanted named → AsksToCompare later wanted named
@@ -236,7 +225,9 @@ pub closes_later : (says : Says) (files later : Files) (wanted : Option JobText)
     → ClosesBy says later wanted status s later_course (Rose later_count end) out
     → ClosesBy says files wanted status s course (Rose count end) out
 closes_later says files later wanted status s course later_course count later_count end out same same_course more closes =
-    search (rules, closes_by, rose_later, same_course)
+    closes_by says files wanted status s course (Rose later_count end) (Rose count end) out (rose_later count later_count end more)
+    (subst (λ (f : Files). ClosesBy says f wanted status s course (Rose later_count end) out) same
+    (subst (λ (c : Course). ClosesBy says later wanted status s c (Rose later_count end) out) same_course closes))
 
 -- the sides were opened as often
 pub same_course : {S R W : Type 0} (s : AnySources S R) (w : AnySink W) (before later after : S) (out_old out_new : W)
@@ -271,10 +262,7 @@ unopened_by says files wanted named (good_run options outcome) course before aft
 unopened_by says files wanted named (bad_run options fault) course before after site out checks cause output =
     absurd (never_compares files wanted named checks cause.0.0)
 unopened_by says files wanted named no_job course before after site out checks cause output = output.1
-unopened_by says files wanted named no_memory course before after site out checks cause output = output.1
-unopened_by says files wanted named no_config course before after site out checks cause output = output.1
-unopened_by says files wanted named large_config course before after site out checks cause output = output.1
-unopened_by says files wanted named (bad_config fault) course before after site out checks cause output = output.1
+unopened_by says files wanted named (no_settings why) course before after site out checks cause output = output.1
 unopened_by says files wanted named (good_config s) course before after site out checks cause output = output.1
 unopened_by says files wanted named (untold_config s) course before after site out checks cause output = output.1
 

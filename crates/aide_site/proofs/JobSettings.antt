@@ -1,5 +1,5 @@
 -- The settings of a job, and what follows if it has none.
-use Rattle.std.proofs.Common.{◌≡◌, ◌⊎◌, ℕ, List, Option, Some, Ok, Err, Bool, true, false, refl, sym, rules}
+use Rattle.std.proofs.Common.{◌≡◌, ◌⊎◌, ℕ, List, Option, Some, None, Ok, Err, Bool, true, false, ap, inl, inr, refl, sym, rules}
 use Rattle.std.specs.Prelude.{Result, IfOk, IfErr, IsSome}
 use Rattle.std.proofs.Math.Path.{subst}
 use Rattle.aide_conf.proofs.Laws.{what_is_compared_is_named}
@@ -9,20 +9,20 @@ use Rattle.aide_conf.specs.Settings.{Configured}
 use Rattle.aide_conf.specs.declared.fault.ConfFault.{ConfFault}
 use Rattle.aide_conf.specs.declared.fault.ConfFaultKind.TheVariants as conf
 use Rattle.aide_conf.specs.declared.task.Need.{Need}
-use Rattle.aide_site.specs.Answer.{Answer, IsJobAnswerBy, Named, need_of}
+use Rattle.aide_site.specs.Answer.{Answer, IsJobAnswerBy, Named}
 use Rattle.aide_site.specs.Closing.{ClosesBy, Course}
-use Rattle.aide_site.specs.Ends.{Ends}
-use Rattle.aide_site.specs.Files.{Files, is_too_large}
+use Rattle.aide_site.specs.Ends.{Ends, config_unread}
+use Rattle.aide_site.specs.Files.{Files, IsLarge, is_too_large}
 use Rattle.aide_site.specs.Put.{Put}
 use Rattle.aide_site.specs.Says.{Says}
-use Rattle.aide_site.specs.code.JobSettings.{HasRead, IsNotOfText, NoSettingsCause, ReadsJobAs}
-use Rattle.aide_site.specs.code.JobSettings.{no_settings_line, no_settings_status}
+use Rattle.aide_site.specs.JobSettings.{AreOfFile, AreOfText, AreSettings, HasRead, IsNotOfText, NoSettingsCause, ReadsJobAs}
+use Rattle.aide_site.specs.JobSettings.{need_of, no_settings_line, no_settings_status}
 use Rattle.aide_site.specs.declared.job_config.NoSettings.{NoSettings}
 use Rattle.aide_site.specs.declared.job_config.NoSettings.TheVariants.{Memory, Unread, TooLarge, Refused}
-use Rattle.aide_site.proofs.AnswerSteps.{fault_is, large_is, same_file, unread_is}
-use Rattle.aide_site.proofs.Closings.{asks_and_reads, closes_bad_config, closes_large, closes_starved, closes_unread}
-use Rattle.aide_site.proofs.Endings.{by_reliable, ends_broken, ends_refused, ends_starved, sinks}
-use Rattle.aide_site.proofs.PutLemmas.{put_as}
+use Rattle.aide_site.proofs.AnswerSteps.{one_file, read_is, settings_answer}
+use Rattle.aide_site.proofs.Closings.{closes_stopped}
+use Rattle.aide_site.proofs.Endings.{by_reliable, ends_refused, none_starts, sinks, true_is_not_false}
+use Rattle.aide_site.proofs.PutLemmas.{appends_none, put_as}
 use Rattle.aide_words.specs.Job.{JobText}
 
 -- ---- what the texts of a job read as
@@ -85,29 +85,68 @@ both_named files job s compare has =
 
 -- ---- a session without settings
 
+of_large : (job : JobText) (file : Option (List ℕ)) (settings : Result Configured NoSettings) → IsLarge file → AreOfFile job file settings
+    → settings ≡ Err TooLarge
+of_large job None settings large are = absurd large
+of_large job (Some text) settings large are = subst (λ (b : Bool). AreOfText job text b settings) large are
+
+-- why a job has no settings: memory, what its files are, or a failure of a site that is not reliable
+pub stopped : (files : Files) (reliable : Bool) (job : JobText) (site : Type 0) (why : NoSettings) (settings : Result Configured NoSettings)
+    → NoSettingsCause files reliable job site why → AreSettings files job settings
+    → (why ≡ Memory) ⊎ ((settings ≡ Err why) ⊎ ((why ≡ Unread) × (reliable ≡ false) × site))
+stopped files reliable job site Memory settings cause are = inl refl
+stopped files reliable job site Unread settings cause are = inr (by_reliable reliable _
+    (λ is. inl (subst (λ (o : Option (List ℕ)). AreOfFile job o settings)
+    (one_file (files job.config) None are.file (cause.1 is) are.known) are.are))
+    (λ is. inr (refl, is, cause.0)))
+stopped files reliable job site TooLarge settings cause are =
+    inr (inl (of_large job are.file settings (cause are.file are.known) are.are))
+stopped files reliable job site (Refused fault) settings cause are = inr (inl (read_is files job (Err fault) settings cause are))
+
+-- nothing is said of a site that need not be reliable
+unsure : (files : Files) (reliable : Bool) (job : JobText) (site : Type 0) (why : NoSettings)
+    → NoSettingsCause files reliable job site why → NoSettingsCause files false job site why
+unsure files reliable job site Memory cause = tt
+unsure files reliable job site Unread cause = (cause.0, λ is. absurd (true_is_not_false (sym is)))
+unsure files reliable job site TooLarge cause = cause
+unsure files reliable job site (Refused fault) cause = cause
+
 module _ (says : Says) (files : Files) (job : JobText) (d e f : Option (List ℕ)) (m n : ℕ) where
   -- it ends with the answer to its job, or is kept from it
   pub ends_without : (reliable : Bool) (rose out : Type 0) (why : NoSettings) (named : Named) (a : Answer)
       → NoSettingsCause files reliable job rose why → Put (no_settings_line job.config why) e f m n
       → IsJobAnswerBy says files job named a
       → Ends a named (no_settings_status why) (sinks d d e f m n) ((reliable ≡ false) × rose) out
-  ends_without reliable rose out Memory named a cause put is = search (rules, ends_starved)
-  ends_without reliable rose out Unread named a cause put is =
-      search (rules, put_as, by_reliable, ends_refused, unread_is, same_file, ends_broken)
-  ends_without reliable rose out TooLarge named a cause put is = search (rules, ends_refused, large_is)
-  ends_without reliable rose out (Refused fault) named a cause put is = search (rules, ends_refused, fault_is)
+  ends_without reliable rose out why named a cause put is =
+      let told : Put (no_settings_line named.config why) e f m n =
+      put_as _ _ (ap (λ path. no_settings_line path why) (sym is.config_is)) put in
+      elim (stopped files reliable job rose why is.settings cause is.are) [
+        | inl memory ↦ inr (inl (record {
+          status_is = ap no_settings_status memory;
+          output = appends_none d;
+          put = put_as _ _ (ap (no_settings_line named.config) memory) told;
+        }))
+        | inr other ↦ elim other [
+          | inl same ↦ ends_refused a named (no_settings_line named.config why) (no_settings_status why) d e f m n _ out
+              (settings_answer says files job job.compare (Err why) named a is refl same) told
+          | inr failed ↦ inr (inr (record {
+            status_is = ap no_settings_status failed.0;
+            output = none_starts a.output d d (appends_none d);
+            failure = config_unread;
+            cause = (failed.1, failed.2);
+            put = put_as _ _ (ap (no_settings_line named.config) failed.0) told;
+          }))
+        ]
+      ]
 
   -- it closes for this cause
   pub closes_without : (wanted : Option JobText) (reliable : Bool) (why : NoSettings) (course : Course) (site out : Type 0)
       → wanted ≡ Some job → NoSettingsCause files reliable job site why → Put (no_settings_line job.config why) e f m n
       → course.opened_after ≡ course.opened_before → course.flushes_after ≡ course.flushes_before
       → ClosesBy says files wanted (no_settings_status why) (sinks d d e f m n) course site out
-  closes_without wanted reliable Memory course site out is cause put unopened unflushed = search (rules, closes_starved)
-  closes_without wanted reliable Unread course site out is cause put unopened unflushed = search (rules, closes_unread)
-  closes_without wanted reliable TooLarge course site out is cause put unopened unflushed = search (rules, closes_large)
-  closes_without wanted reliable (Refused fault) course site out is cause put unopened unflushed =
-      closes_bad_config says files wanted job.config job.compare fault d e f m n course site out
-      (asks_and_reads files files wanted job job.compare (Err fault) refl is refl cause) put unopened unflushed
+  closes_without wanted reliable why course site out is cause put unopened unflushed =
+      closes_stopped says files wanted job why d e f m n course site out is (unsure files reliable job site why cause) put unopened
+      unflushed
 
 -- the same closing for a status that is equal
 pub closes_status : (says : Says) (files : Files) (wanted : Option JobText) (d e f : Option (List ℕ)) (m n status put : ℕ)

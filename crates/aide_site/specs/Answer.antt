@@ -3,11 +3,7 @@
 use Rattle.std.specs.Prelude.{◌≡◌, ◌⊎◌, ℕ, ◌^◌, Bool, true, false, List, [], Ok, Err, Result}
 use Rattle.std.specs.Prelude.{Option, Some, None}
 use Rattle.aide_conf.specs.Settings.{Configured}
-use Rattle.aide_conf.specs.ReadResult.{ReadsAs}
-use Rattle.aide_conf.specs.declared.fault.ConfFault.{ConfFault}
 use Rattle.aide_conf.specs.declared.options.Options.{Options}
-use Rattle.aide_conf.specs.declared.task.Need.{Need}
-use Rattle.aide_conf.specs.declared.task.Need.TheVariants.{Compare, Check}
 use Rattle.aide_db.specs.declared.fault.DbFault.{DbFault}
 use Rattle.aide_db.specs.Database.{IsSound}
 use Rattle.aide_db.specs.declared.limits.Limits.{Limits}
@@ -16,10 +12,11 @@ use Rattle.aide_merge.specs.Asked.{Asked}
 use Rattle.aide_merge.specs.RightAnswer.{Report, IsFirstFaultOf}
 use Rattle.aide_report_specs.specs.Runs.{Runs}
 use Rattle.aide_merge.specs.Outcomes.{status_of}
-use Rattle.aide_site.specs.Files.{Files, is_too_large}
+use Rattle.aide_site.specs.Files.{Files}
+use Rattle.aide_site.specs.JobSettings.{AreSettings, no_settings_line, no_settings_status}
+use Rattle.aide_site.specs.declared.job_config.NoSettings.{NoSettings}
 use Rattle.aide_words.specs.Job.{JobText}
-use Rattle.aide_site.specs.Lines.{unread_line, too_large_line, conf_line, open_line}
-use Rattle.aide_site.specs.Lines.{database_line, outcome_lines}
+use Rattle.aide_site.specs.Lines.{database_line, open_line, outcome_lines}
 use Rattle.aide_site.specs.Says.{Says, usage_by}
 use Rattle.aide_site.specs.declared.whose.Whose.TheVariants.{Compared}
 
@@ -93,43 +90,21 @@ pub record Compares (files : Files) (s : Configured) (named : Named) (a : Answer
   pub new_told : files named.new_path ≡ Some new_file
   pub then_is : IsCompared s.options named old_file new_file a
 
--- what a configuration is read for: a comparison, or only a check
-abbrev pub need_of : Bool → Need
-need_of true = Compare
-need_of false = Check
-
--- the answer, by whether the configuration reads as settings or has a fault
-abbrev pub IsReadAnswerBy : Says → Files → Bool → Result Configured ConfFault → Named → Answer
+-- the answer to a job that asks for a comparison or not, by its settings or by why it has none
+abbrev pub IsSettingsAnswerBy : Says → Files → Result Configured NoSettings → Bool → Named → Answer
     → Type 0
-IsReadAnswerBy says files true (Ok s) named a = Compares files s named a
-IsReadAnswerBy says files false (Ok s) named a = a ≡ checked_by says s
-IsReadAnswerBy says files compare (Err fault) named a = a ≡ refused (conf_line fault) 17
-
--- the answer if the configuration has this text
-pub record IsTextAnswerBy (says : Says) (files : Files) (job : JobText) (text : List ℕ)
-    (named : Named) (a : Answer) : Type 0 where
-  pub read : Result Configured ConfFault
-  pub reads : ReadsAs (need_of job.compare) job.before text job.after read
-  pub then_is : IsReadAnswerBy says files job.compare read named a
-
--- the answer, by whether the configuration is too large
-abbrev pub IsSizedAnswerBy : Says → Files → JobText → Bool → List ℕ → Named → Answer → Type 0
-IsSizedAnswerBy says files job true text named a = a ≡ refused too_large_line 17
-IsSizedAnswerBy says files job false text named a = IsTextAnswerBy says files job text named a
-
--- the answer, by what is at the configuration's path
-abbrev pub IsFileAnswerBy : Says → Files → JobText → Option (List ℕ) → Named → Answer → Type 0
-IsFileAnswerBy says files job None named a = a ≡ refused (unread_line job.config) 18
-IsFileAnswerBy says files job (Some text) named a =
-    IsSizedAnswerBy says files job (is_too_large text) text named a
+IsSettingsAnswerBy says files (Ok s) true named a = Compares files s named a
+IsSettingsAnswerBy says files (Ok s) false named a = a ≡ checked_by says s
+IsSettingsAnswerBy says files (Err why) compare named a =
+    a ≡ refused (no_settings_line named.config why) (no_settings_status why)
 
 -- the answer to a job if it is known what is at its configuration's path
 pub record IsJobAnswerBy (says : Says) (files : Files) (job : JobText) (named : Named)
     (a : Answer) : Type 0 where
   pub config_is : named.config ≡ job.config
-  pub file : Option (List ℕ)
-  pub known : files job.config ≡ Some file
-  pub then_is : IsFileAnswerBy says files job file named a
+  pub settings : Result Configured NoSettings
+  pub are : AreSettings files job settings
+  pub then_is : IsSettingsAnswerBy says files settings job.compare named a
 
 -- The answer to what the arguments ask for, over these files. It is the first fault of the
 -- arguments, of the configuration or of a database, or else what the job asks for. A named file that

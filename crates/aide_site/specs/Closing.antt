@@ -1,10 +1,9 @@
 -- How a session ends over any site, even one that does not show its files: its result, and the
 -- cause of this result.
-use Rattle.std.specs.Prelude.{◌≡◌, ℕ, Bool, true, false, List, [], Ok, Err, Result, Option, Some}
-use Rattle.std.specs.Prelude.{None, ⊤}
+use Rattle.std.specs.Prelude.{◌≡◌, ℕ, Bool, true, false, List, [], Ok, Result, Option, Some}
+use Rattle.std.specs.Prelude.{None, ⊤, ◌⊎◌}
 use Rattle.std.specs.Io.KnownBytes.{Appends}
 use Rattle.aide_conf.specs.Settings.{Configured}
-use Rattle.aide_conf.specs.ReadResult.{ReadsAs}
 use Rattle.aide_conf.specs.declared.fault.ConfFault.{ConfFault}
 use Rattle.aide_conf.specs.declared.options.Options.{Options}
 use Rattle.aide_db.specs.Database.{IsSound}
@@ -29,23 +28,23 @@ use Rattle.aide_merge.specs.declared.outcome.Outcome.{Outcome}
 use Rattle.aide_merge.specs.declared.run_fault.RunFault.{RunFault}
 use Rattle.aide_merge.specs.declared.run_fault.RunFault.TheVariants.{Open, Database, Changed}
 use Rattle.aide_merge.specs.declared.run_fault.RunFault.TheVariants.{Write}
-use Rattle.aide_site.specs.Answer.{Named, asked_by, limits, need_of}
+use Rattle.aide_site.specs.Answer.{Named, asked_by, limits}
 use Rattle.aide_site.specs.Ends.{Sinks, Puts}
-use Rattle.aide_site.specs.Files.{Files, IsLarge, is_too_large}
+use Rattle.aide_site.specs.Files.{Files}
+use Rattle.aide_site.specs.JobSettings.{HasRead, NoSettingsCause, no_settings_line}
+use Rattle.aide_site.specs.JobSettings.{no_settings_status}
+use Rattle.aide_site.specs.declared.job_config.NoSettings.{NoSettings}
+use Rattle.aide_site.specs.declared.job_config.NoSettings.TheVariants.{Memory}
 use Rattle.aide_text.specs.declared.sink.Sink.{Ghosts as AnySink}
 use Rattle.aide_words.specs.Job.{JobText}
-use Rattle.aide_site.specs.Lines.{memory_line, unread_line, too_large_line}
-use Rattle.aide_site.specs.Lines.{conf_line, run_fault_line, outcome_lines, write_line}
+use Rattle.aide_site.specs.Lines.{outcome_lines, run_fault_line, write_line}
 use Rattle.aide_site.specs.Says.{Says, usage_by}
 use Rattle.aide_site.specs.declared.whose.Whose.TheVariants.{Compared}
 
 -- the result of a session
 pub data Closing : Type 0 where
   no_job : Closing
-  no_memory : Closing
-  no_config : Closing
-  large_config : Closing
-  bad_config : ConfFault → Closing
+  no_settings : NoSettings → Closing
   good_config : Configured → Closing
   untold_config : Configured → Closing
   bad_run : Options → RunFault → Closing
@@ -54,10 +53,7 @@ pub data Closing : Type 0 where
 -- the exit status
 abbrev pub closing_status : Closing → ℕ
 closing_status no_job = 15
-closing_status no_memory = 22
-closing_status no_config = 18
-closing_status large_config = 17
-closing_status (bad_config fault) = 17
+closing_status (no_settings why) = no_settings_status why
 closing_status (good_config s) = 0
 closing_status (untold_config s) = 18
 closing_status (bad_run options fault) = fault_status fault
@@ -66,10 +62,7 @@ closing_status (good_run options outcome) = status_of outcome.added outcome.remo
 -- what is put on standard error
 abbrev pub closing_line : Says → Named → Closing → List ℕ
 closing_line says named no_job = usage_by says
-closing_line says named no_memory = memory_line
-closing_line says named no_config = unread_line named.config
-closing_line says named large_config = too_large_line
-closing_line says named (bad_config fault) = conf_line fault
+closing_line says named (no_settings why) = no_settings_line named.config why
 closing_line says named (good_config s) = []
 closing_line says named (untold_config s) = write_line
 closing_line says named (bad_run options fault) =
@@ -156,10 +149,7 @@ pub record AsksAndReads (files : Files) (wanted : Option JobText) (config : List
   pub job_is : wanted ≡ Some job
   pub config_is : config ≡ job.config
   pub compare_is : job.compare ≡ compare
-  pub text : List ℕ
-  pub text_is : (file : Option (List ℕ)) → files job.config ≡ Some file → file ≡ Some text
-  pub small : is_too_large text ≡ false
-  pub reads : ReadsAs (need_of compare) job.before text job.after read
+  pub has : HasRead files job read
 
 -- the arguments ask for a comparison of the databases at the paths that are named
 pub record AsksToCompare (files : Files) (wanted : Option JobText) (named : Named) : Type 0 where
@@ -191,15 +181,11 @@ AreBothSound files named =
     (side : Side) (text : List ℕ) → HasText files named side text → IsSound limits text
 
 -- The cause of each closing. `site` and `out` mean that the site or the output has counted a
--- failure.
+-- failure. Memory may run out at any time.
 abbrev pub ClosingCause : Files → Option JobText → Named → Closing → (site out : Type 0) → Type 0
 ClosingCause files wanted named no_job site out = wanted ≡ None
-ClosingCause files wanted named no_memory site out = ⊤
-ClosingCause files wanted named no_config site out = Asks wanted named × site
-ClosingCause files wanted named large_config site out = Asks wanted named
-    × ((file : Option (List ℕ)) → files named.config ≡ Some file → IsLarge file)
-ClosingCause files wanted named (bad_config fault) site out = (compare : Bool)
-    × AsksAndReads files wanted named.config compare (Err fault)
+ClosingCause files wanted named (no_settings why) site out = (why ≡ Memory)
+    ⊎ ((asks : Asks wanted named) × NoSettingsCause files false asks.job site why)
 ClosingCause files wanted named (good_config s) site out =
     AsksAndReads files wanted named.config false (Ok s)
 ClosingCause files wanted named (untold_config s) site out =

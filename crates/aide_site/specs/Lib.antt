@@ -4,6 +4,7 @@ pub mod Ends
 pub mod Existence
 pub mod Files
 pub mod Held
+pub mod JobSettings
 pub mod Lines
 pub mod Page
 pub mod Pointing

@@ -1,4 +1,3 @@
 -- Definitions for steps inside the code. No clause of a public call of a program cites them.
 pub mod Config
-pub mod JobSettings
 pub mod Parts

@@ -1,10 +1,10 @@
 //! Reading the settings of a job, for the report and for lines of JSON.
 ghost use Rattle.std.specs.Prelude.{◌≡◌, Ok, IfOk, IfErr};
 ghost use Rattle.aide_text.specs.Failures.{Rose};
-ghost use Rattle.aide_site.specs.Answer.{need_of};
-ghost use Rattle.aide_site.specs.code.JobSettings.{HasRead, IsNotOfText, NoSettingsCause};
-ghost use Rattle.aide_site.specs.code.JobSettings.{ReadsJobAs, comparison_of, job_text_of};
-ghost use Rattle.aide_site.specs.code.JobSettings.{no_settings_line, no_settings_status};
+ghost use Rattle.aide_site.specs.JobSettings.{need_of};
+ghost use Rattle.aide_site.specs.JobSettings.{HasRead, IsNotOfText, NoSettingsCause};
+ghost use Rattle.aide_site.specs.JobSettings.{ReadsJobAs, comparison_of, job_text_of};
+ghost use Rattle.aide_site.specs.JobSettings.{no_settings_line, no_settings_status};
 ghost use Rattle.aide_site.specs.Put.{PutOn};
 ghost use Rattle.aide_site.specs.code.Config.{OpensOneFile};
 ghost use Rattle.aide_words.specs.Job.{text_of_job};

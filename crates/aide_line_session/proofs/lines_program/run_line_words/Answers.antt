@@ -1,4 +1,6 @@
-use Rattle.std.proofs.Common.{◌∙◌, ap, refl, Some, Err, rules}
+use Rattle.std.proofs.Common.{◌∙◌, ap, inl, refl, Some, Err, rules}
+use Rattle.aide_line_session.specs.LineEnds.{no_settings}
+use Rattle.aide_site.specs.declared.job_config.NoSettings.TheVariants.{Memory}
 use Rattle.std.proofs.Math.Path.{subst}
 use Rattle.aide_patterns.specs.List.{HasFirstFault}
 use Rattle.aide_words.specs.LineJob.{LineJobText, text_of_line_job}
@@ -46,4 +48,17 @@ pub returns-in-Err-Memory-clause-alone : goal.returns-in-Err-Memory-clause-alone
 returns-in-Err-Memory-clause-alone g c = search (rules, ends_starved, closes_starved)
 
 pub returns-in-Err-Memory-clause-compares : goal.returns-in-Err-Memory-clause-compares
-returns-in-Err-Memory-clause-compares g c = search (rules, appends_none)
+returns-in-Err-Memory-clause-compares g c = λ job is. inl (record {
+  stop = no_settings Memory;
+  cause = inl refl;
+  stops = record {
+    status_is = refl;
+    put = c.put_memory_line.ensures;
+    output = appends_none (g.W.Sink.delivered c.args.devices.now.out.now);
+    unopened = refl;
+    trusted_unopened = refl;
+    unflushed = refl;
+    still = refl;
+    trusted_still = refl;
+  };
+})

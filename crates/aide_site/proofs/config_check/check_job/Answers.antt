@@ -1,6 +1,6 @@
 use Rattle.std.proofs.Common.{Ok, ap, refl}
 use Rattle.aide_words.specs.Job.{text_of_job}
-use Rattle.aide_site.specs.code.JobSettings.{no_settings_line}
+use Rattle.aide_site.specs.JobSettings.{no_settings_line}
 use Rattle.aide_site.proofs.AnswerSteps.{checked_is}
 use Rattle.aide_site.proofs.Closings.{asks_and_reads, closes_later, same_course}
 use Rattle.aide_site.proofs.Endings.{ends_by, ends_status, failed_later}

@@ -1,4 +1,4 @@
-use Rattle.aide_site.specs.code.JobSettings.{job_text_of}
+use Rattle.aide_site.specs.JobSettings.{job_text_of}
 use Rattle.aide_site.proofs.JobSettings.{has_fault, has_settings}
 use Rattle.aide_site.proofs.job_config.job_settings.Goals as goal
 

@@ -1,9 +1,11 @@
--- What contracts say of the settings of a job, or of why it has none.
-use Rattle.std.specs.Prelude.{◌≡◌, ℕ, Bool, true, false, List, Option, Some, None, Err, Result, ⊤}
+-- The settings of a job, or why it has none.
+use Rattle.std.specs.Prelude.{◌≡◌, ℕ, Bool, true, false, List, Option, Some, None, Ok, Err}
+use Rattle.std.specs.Prelude.{Result, ⊤}
 use Rattle.aide_conf.specs.ReadResult.{ReadsAs}
 use Rattle.aide_conf.specs.Settings.{Configured}
 use Rattle.aide_conf.specs.declared.fault.ConfFault.{ConfFault}
-use Rattle.aide_site.specs.Answer.{need_of}
+use Rattle.aide_conf.specs.declared.task.Need.{Need}
+use Rattle.aide_conf.specs.declared.task.Need.TheVariants.{Compare, Check}
 use Rattle.aide_site.specs.Files.{Files, IsLarge, is_too_large}
 use Rattle.aide_site.specs.Lines.{conf_line, memory_line, too_large_line, unread_line}
 use Rattle.aide_site.specs.declared.job_config.JobConfig.{JobConfig}
@@ -31,9 +33,37 @@ comparison_of job = record {
   after = job.after;
 }
 
+-- what a configuration is read for: a comparison, or only a check
+abbrev pub need_of : Bool → Need
+need_of true = Compare
+need_of false = Check
+
 -- the texts of a job whose configuration has this text read as this
 abbrev pub ReadsJobAs : JobText → List ℕ → Result Configured ConfFault → Type 0
 ReadsJobAs job text read = ReadsAs (need_of job.compare) job.before text job.after read
+
+-- the settings of what a configuration reads as, or its fault as the reason why there are none
+abbrev pub settings_by : Result Configured ConfFault → Result Configured NoSettings
+settings_by (Ok s) = Ok s
+settings_by (Err fault) = Err (Refused fault)
+
+-- the settings of a job whose configuration has this text, by whether it is too large
+abbrev pub AreOfText : JobText → List ℕ → Bool → Result Configured NoSettings → Type 0
+AreOfText job text true settings = settings ≡ Err TooLarge
+AreOfText job text false settings =
+    (read : Result Configured ConfFault) × ReadsJobAs job text read × (settings ≡ settings_by read)
+
+-- the settings of a job, by what is at the path of its configuration
+abbrev pub AreOfFile : JobText → Option (List ℕ) → Result Configured NoSettings → Type 0
+AreOfFile job None settings = settings ≡ Err Unread
+AreOfFile job (Some text) settings = AreOfText job text (is_too_large text) settings
+
+-- The settings of a job over files, or why it has none. It is known what is at the path of its configuration.
+pub record AreSettings (files : Files) (job : JobText) (settings : Result Configured NoSettings)
+    : Type 0 where
+  pub file : Option (List ℕ)
+  pub known : files job.config ≡ Some file
+  pub are : AreOfFile job file settings
 
 -- The configuration of a job was read, and reads as this. If the file is known, the text is the file's.
 pub record HasRead (files : Files) (job : JobText) (read : Result Configured ConfFault)
