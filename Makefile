@@ -16,7 +16,7 @@ endif
 all:
 	$(if $(PROGRAM),,python3 -B -m tools.gate.built)
 
-# The tests that prove nothing and take no minutes. tools/test proves all crates and runs all tests.
+# The tests that prove nothing and take no minutes, without those of plans. tools/test proves all crates and runs all tests.
 check: all
 	env -u MAKEFLAGS -u PROGRAM AIDE_PROGRAM='$(program)' tools/quick --all
 

@@ -1,6 +1,7 @@
 """Which tests a change is tried by, the nearest first, and that no further one begins in the end."""
 from __future__ import annotations
 
+import sys
 import unittest
 from unittest import mock
 
@@ -22,6 +23,13 @@ class AffectedTest(unittest.TestCase):
         self.assertLess(names.index("tests.commands.test_state"), names.index(names[-1]))
         module = tests.of("commands/lib/aide_compare/compare/history.py")
         self.assertIn("tests.commands.test_history", module)
+
+    def test_planned(self) -> None:
+        """The tests of plans run if there is their program, and otherwise all others do."""
+        names = ["tests.planned.test_lists", "tests.program.test_lines"]
+        self.assertEqual(quick.with_program(names, "/nowhere/aide"), names[1:])
+        with mock.patch.object(quick, "beside", return_value=sys.executable):
+            self.assertEqual(quick.with_program(names, "/nowhere/aide"), names)
 
     def test_time(self) -> None:
         """After some seconds no further module begins, and their number is known."""

@@ -16,7 +16,7 @@ import re
 import subprocess
 import sys
 
-from tests.lib.programs import BUILT, VARIABLE
+from tests.lib.programs import BUILT, VARIABLE, beside
 from tests.lib.scratch import TOP
 from tests.lib.tally import Tally
 from tools.gate import unit_tests
@@ -95,6 +95,14 @@ def find_program(tally: Tally) -> str | None:
     return None
 
 
+def with_program(modules: list[str], program: str) -> list[str]:
+    """The modules of tests that can run: a build for users has no program of plans."""
+    if os.access(beside(program, "aide_planned"), os.X_OK):
+        return modules
+    print("there is no program aide_planned here, so no test of tests/planned runs", flush=True)
+    return [module for module in modules if not module.startswith("tests.planned.")]
+
+
 def main() -> int:
     parser = parser_of("tools.gate.quick", __doc__)
     parser.add_argument(
@@ -118,6 +126,8 @@ def main() -> int:
     waiting = [module for module in modules if module not in checks]
     program = find_program(tally) if waiting else None
     if program:
+        if args.all:
+            waiting = with_program(waiting, program)
         seconds = None if args.all or args.far else SECONDS
         print(f"{len(waiting)} modules of tests, the nearest first: {waiting[0]}", flush=True)
         left = unit_tests.run_all(waiting, tally, program, is_quick=True, seconds=seconds)
