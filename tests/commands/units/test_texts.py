@@ -13,8 +13,9 @@ from tests.commands.units.calls import ModuleTest
 from aide_compare.base import ending, escapes, kinds, words
 from aide_compare.compare import state
 from aide_compare.lines import attributes
-from aide_compare.lines.change import Change, Counts, Values, change_of
+from aide_compare.lines.change import Change, Counts, Value, Values, change_of
 from aide_compare.show import entry
+from aide_compare.show.page import shown_value
 
 ESCAPED: tuple[tuple[str | bytes, str], ...] = (
     (b"a b", "a b"),
@@ -62,6 +63,20 @@ def change_between(old: Values | None, new: Values | None) -> Change:
 
 
 class TextsTest(ModuleTest):
+    def test_values_of_a_page(self) -> None:
+        """A script reads a number as one, if that is exact."""
+        rows: list[tuple[Value, int | str]] = [
+            (0, 0),
+            (-5, -5),
+            (2**53 - 1, 2**53 - 1),
+            (2**53, "9007199254740992"),
+            (None, "none"),
+            ("0644", "0644"),
+            (b"\xff", "\\377"),
+        ]
+        for value, shown_as in rows:
+            self.gives(shown_as, shown_value, value)
+
     def test_tables(self) -> None:
         """The tables of attributes say the same: each digest is in the order of strength, in
         databases and in the schema."""
