@@ -14,7 +14,7 @@ from tests.lib.scratch import read
 
 from aide_compare.base.words import SEVERITIES
 from aide_compare.changes import severity
-from aide_compare.changes.severity import RANKS, Severity, results_of, shipped_table
+from aide_compare.changes.severity import RANKS, TESTS, Severity, results_of, shipped_table
 from aide_compare.lines.rights import Rights, Side, owner_of_change
 
 TYPES = {0o10: "File", 0o4: "Directory", 0o12: "Link", 0o1: "FIFO"}
@@ -273,6 +273,12 @@ class SeverityTest(ModuleTest):
         lines = re.findall("^(?:high|medium|low) .*", read("commands/share/severity.conf"), re.M)
         missing = [line for number, line in enumerate(lines) if number not in decided]
         self.assertEqual(missing, [])
+
+    def test_words(self) -> None:
+        """The head of the shipped table explains each test: no manual page does."""
+        head = read("commands/share/severity.conf").partition("\n\n")[0]
+        named = re.findall(r"^# ([a-z][a-z, -]*[a-z]) {2,}\S", head, re.M)
+        self.assertEqual(sorted(", ".join(named).split(", ")), sorted(TESTS))
 
     def test_removed(self) -> None:
         """A certificate of an authority, or a package, that went gives nobody a right."""
