@@ -102,10 +102,12 @@ class Page:
         template: str,
         printed: Sequence[Place] = (),
         examples: dict[Place, list[str]] | None = None,
+        has_heads: bool = True,
     ) -> None:
         self.definitions = definitions
         self.examples = {} if examples is None else examples
         self.template = template
+        self.has_heads = has_heads
         self.blocks: list[str] = []
         self.sections: dict[str, list[str]] = {}
         self.printed = list(printed)
@@ -151,10 +153,10 @@ class Page:
         }
         lines: list[str] = []
         for file in users_first(files, users):
-            name = "crates/%s/specs/%s.antt" % (file[0], file[1].replace(".", "/"))
-            lines += [""] + wrapped(
-                "==== %s: %s" % (name, self.definitions.files[file].head), "-- "
-            )
+            title = f"crates/{file[0]}/specs/{file[1].replace('.', '/')}.antt"
+            if self.has_heads:
+                title = f"==== {title}: {self.definitions.files[file].head}"
+            lines += ["", *wrapped(title, "-- ")]
             inside = [place for place in places if place[:2] == file]
             among = {
                 one: {other for other in inside if one in self.definitions.used_by(other)[0]}

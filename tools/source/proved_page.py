@@ -12,12 +12,11 @@ from tools.source.headline_page import (
     COMPARE,
     LAWS,
     PROGRAM,
-    TYPES,
     Page,
     fields_of,
     law_of,
 )
-from tools.source.headline_tables import types_of
+from tools.source.headline_tables import types_in
 from tools.source.worked_examples import ENTRIES, examples_of
 
 PROVED = "docs/PROVED.md"
@@ -56,19 +55,22 @@ def used_by(definitions: Definitions, places: Places) -> tuple[Places, Places]:
     return inside, outside
 
 
-def names_of(definitions: Definitions, places: Places, printed: Places) -> list[str]:
-    """A list of the files whose definitions the page names and does not print, with these names."""
+def names_of(places: Places, outside: Places, printed: Places) -> list[str]:
+    """A list of the files whose definitions, or types of the code, the page names and does not
+    print, with these names."""
     names: dict[str, list[str]] = {}
     for crate, file, name in sorted({*places} - {*printed}):
         path = f"crates/{crate}/specs/{file.replace('.', '/')}.antt"
         names.setdefault(path, []).append(f"`{name}`")
+    for crate, module, name in sorted(types_in(outside)):
+        names.setdefault(f"crates/{crate}/src/{module}.rt", []).append(f"`{name}`")
     return [f"- `{path}`: {', '.join(inside)}" for path, inside in names.items()]
 
 
 def proved() -> str:
     """The page."""
     definitions = Definitions(crates())
-    page = Page(definitions, read(PROVED), examples=examples_of(ENTRIES))
+    page = Page(definitions, read(PROVED), examples=examples_of(ENTRIES), has_heads=False)
     named: Places = []
     calls = (COMPARE, "compare_databases"), (PROGRAM, "run_program")
     for (file, _), contract in zip(calls, page.contracts(*calls)):
@@ -83,6 +85,5 @@ def proved() -> str:
     printed = [*SAID, *decide]
     inside, outside = used_by(definitions, printed)
     there: list[Place] = [place for place in [*named, *inside] if definitions.has(place)]
-    page.sections[NAMES] = names_of(definitions, there, printed)
-    page.sections[TYPES] = types_of(used_by(definitions, decide)[1])
+    page.sections[NAMES] = names_of(there, used_by(definitions, decide)[1], printed)
     return page.text()
