@@ -42,7 +42,7 @@ JSON = Option(
 )
 PAGE = Option(
     "--page",
-    "write the changes as a page to look at to FILE, - for standard output",
+    "write the changes as a page for a browser to FILE, - for standard output",
     "FILE",
     is_single=True,
 )
