@@ -14,8 +14,8 @@ from aide_compare.lines.rights import PLACES, ROOT, Rights, Side, owner_of_chang
 
 MAX_NUMBER = (1 << 63) - 1
 LINKS = "Linkcount"
-# The members of a side that say its rights.
-RIGHTS_MEMBERS = [name + end for name in ("Type", *PLACES) for end in ("", HEX)]
+# The members of a side that say its rights. Types and numbers are never in base 16.
+RIGHTS_MEMBERS = ["Type", *PLACES, *(name + HEX for name in ("ACL", "XAttrs", "SELinux", "Caps"))]
 # What is remembered has a bound.
 MAX_KNOWN = 1 << 9
 MAX_LINE = 1 << 11
