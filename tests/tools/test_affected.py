@@ -1,10 +1,13 @@
 """Which tests a change is tried by, the nearest first, and that no further one begins in the end."""
 from __future__ import annotations
 
+import os
 import sys
+import tempfile
 import unittest
 from unittest import mock
 
+from tests.lib.programs import VARIABLE
 from tests.lib.tally import Tally
 from tools.gate import quick, unit_tests
 from tools.gate.affected import Tests
@@ -30,6 +33,18 @@ class AffectedTest(unittest.TestCase):
         self.assertEqual(quick.with_program(names, "/nowhere/aide"), names[1:])
         with mock.patch.object(quick, "beside", return_value=sys.executable):
             self.assertEqual(quick.with_program(names, "/nowhere/aide"), names)
+
+    def test_old_program(self) -> None:
+        """A program older than its sources is a failure, but of one that make was given."""
+        with tempfile.NamedTemporaryFile() as file, mock.patch.dict(
+            os.environ, {VARIABLE: file.name}
+        ):
+            os.chmod(file.name, 0o755)
+            os.utime(file.name, (1, 1))
+            for may_be_old, failed in ((False, 1), (True, 0)):
+                tally = Tally()
+                self.assertEqual(quick.find_program(tally, may_be_old), file.name)
+                self.assertEqual(tally.failed, failed)
 
     def test_time(self) -> None:
         """After some seconds no further module begins, and their number is known."""

@@ -82,14 +82,19 @@ def tests_for(names: list[str], tally: Tally) -> list[str]:
     return sorted(found, key=lambda module: (found[module], ".units." not in module, module))
 
 
-def find_program(tally: Tally) -> str | None:
-    """The program that was built last. One that is older than its sources is a failure."""
+def find_program(tally: Tally, may_be_old: bool = False) -> str | None:
+    """The program that was built last. One that is older than its sources is a failure, unless
+    somebody has named it for all tests."""
     sources = glob.glob(os.path.join(TOP, "crates", "*", "src", "**", "*.rt"), recursive=True)
     for path in filter(None, (os.environ.get(VARIABLE), BUILT, BUILT + "-unproved")):
         if os.access(path, os.X_OK):
             print(f"the tests run {path}", flush=True)
             if os.path.getmtime(path) < max(map(os.path.getmtime, sources)):
-                tally.add(path, ["it is older than its sources: run tools/build_unproved"])
+                text = "it is older than its sources"
+                if may_be_old:
+                    print(f"{path}: {text}", flush=True)
+                else:
+                    tally.add(path, [f"{text}: run tools/build_unproved"])
             return path
     tally.add("the program", ["there is none, so no test ran: run tools/build_unproved"])
     return None
@@ -124,7 +129,7 @@ def main() -> int:
         checks.remove(PYTHON)
     unit_tests.run_all(sorted(checks), tally)
     waiting = [module for module in modules if module not in checks]
-    program = find_program(tally) if waiting else None
+    program = find_program(tally, args.all and VARIABLE in os.environ) if waiting else None
     if program:
         if args.all:
             waiting = with_program(waiting, program)
