@@ -24,8 +24,6 @@ from aide_compare.lines.change import Change, ChangeLine, Counts, Fields, Standi
 from aide_compare.lines.change import change_line, change_of, parsed
 from aide_compare.lines.reader import Reader
 
-LINE_AT = "select line_at, line_size from changes where place = ?"
-COUNTS = "select standing, level, kind, sum(size) from numbers group by 1, 2, 3"
 # The titles above the packages that people hear of first.
 TITLES = ("Unsigned packages", "New packages", "Removed packages")
 MAX_MEMBERS = 1000
@@ -134,7 +132,7 @@ class Judged:
         for silent in SILENT:
             numbers[silent.key] += self._standings.count(STANDINGS.index(silent))
         kinds = set()
-        for standing, level, kind, size in self.table.ask(COUNTS):
+        for standing, level, kind, size in self.table.counts():
             numbers[standing] += size
             numbers[f"{standing}_{SEVERITIES[level]}"] += size
             kinds.add(kind)
@@ -180,7 +178,7 @@ class Judged:
         """The line of the change at a place of the table."""
         change = self._kept.get(place)
         if change is None:
-            ((at, size),) = self.table.ask(LINE_AT, place)
+            at, size = self.table.line_at(place)
             line = os.pread(self.file.fileno(), size, at)
             change = change_line(parsed(line), line)
         return change

@@ -14,13 +14,14 @@ from aide_compare.base.rows import Rows
 from aide_compare.base.words import SEVERITIES, SIDES
 from aide_compare.changes.severity import RANKS, Severity
 from aide_compare.changes.table import ORDER_OF_PART as ORDER_ON_HOST
+from aide_compare.changes.table import Questions
 from aide_compare.changes.weighing import Weights
 from aide_compare.hosts.report_values import SharedChange
 from aide_compare.lines.attributes import FORMS
 from aide_compare.lines.change import ChangeLine, Fields
 from aide_compare.lines.reader import HEX
 from aide_compare.lines.rights import differing, without
-from aide_compare.show.digest import MAIL, Questions
+from aide_compare.show.digest import MAIL
 
 OWN = frozenset(["Bcount", "Atime", "Mtime", "Ctime", "Inode", "Linkcount"])
 MEMBERS = frozenset("kind path path_hex summary type old new".split())

@@ -14,21 +14,13 @@ from collections.abc import Iterator
 
 from aide_compare.base.ending import DeviceFault, write_blocks
 from aide_compare.changes.judged import Judged
-from aide_compare.changes.table import ORDER
+from aide_compare.changes.table import KEEP, SIZES
 from aide_compare.compare.comparison import Comparison, Judgement
 from aide_compare.lines.reader import COUNTS_OF_END, Refused, reader_over
 from aide_compare.show.digest import rooms_of
 from aide_compare.show.json_lines import line_of
 
 SHARES = 16  # Each severity of each group of owners has one of so many shares of the limit.
-SIZES = "select level, owners, sum(line_size) from changes group by 1, 2"
-KEEP = f"""
-update changes set is_listed = true where place in (
-    select place from (
-        select place, sum(line_size) over (order by {ORDER}) as size
-        from changes where level = ? and owners = ?
-    ) where size <= ?
-)"""
 
 
 def kept_lines(judged: Judged, limit: int) -> Iterator[bytes]:

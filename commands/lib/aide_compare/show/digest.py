@@ -18,47 +18,18 @@ from aide_compare.base.escapes import shown
 from aide_compare.base.paths import path_of
 from aide_compare.base.rows import Rows
 from aide_compare.base.words import SEVERITIES
-from aide_compare.changes.table import LISTED, ORDER_OF_PART
+from aide_compare.changes.table import OF_CHANGES, Questions
 from aide_compare.lines.change import Change
 
 MAX_LETTERS = 400  # Of a path in a line of any width.
 MIN_WIDTH = 24  # Of a path, however little room there is.
 # What a line without room leaves out first of a new entry, whose mode says more.
 SIZE = " [0-9]+ bytes$"
-# What open changes of one severity and one group of owners have in common.
-PART = f"{LISTED} and level = ? and owners = ?"
 # So many rows of an answer are mostly enough, and take half as long as all.
 ENOUGH = 1000
 
 # The words, in so many columns, for a group by which the changes that are not listed are counted.
 Names = Callable[[Any, int], str]
-
-
-class Questions(NamedTuple):
-    """What a text asks of a table of changes."""
-
-    # Of each severity and each group of owners how many there are, and how many come before all
-    # others, if so many {first} of a group do and {named} lines count the others.
-    sizes: str
-    # Of one of these parts the places in their order, with the user and the group of each.
-    in_order: str
-    # In which groups most of those are that are not listed.
-    most: str
-    # Turns round whether the change at a place is listed.
-    turn: str
-
-
-# Those of one host: a group is a directory.
-OF_CHANGES = Questions(
-    sizes=f"""
-select level, owners, sum(size), sum(size) from numbers where {LISTED}
-group by 1, 2 having sum(size)""",
-    in_order=f"select place, user, directory from changes where {PART} order by {ORDER_OF_PART}",
-    most=f"""
-select directory, count(*) from changes where {PART} and not is_listed
-group by 1 order by 2 desc, 1 limit ?""",
-    turn="update changes set is_listed = not is_listed where place = ?",
-)
 
 
 class Room(NamedTuple):

@@ -6,16 +6,11 @@ from collections.abc import Iterator
 from aide_compare.base.escapes import guarded
 from aide_compare.base.words import counted
 from aide_compare.changes.judged import Judged
-from aide_compare.changes.table import RECORDED, Table
+from aide_compare.changes.table import Table
 from aide_compare.show.digest import shortened_path
 
 MAX_PACKAGE_NAME = 40
 MAX_HIGH = 3  # Of each package so many paths of severity high are named.
-# The packages with recorded changes, those with most of severity high first.
-RECORDED_OF = (
-    f"select package, count(*), sum(level = 0) from changes where {RECORDED}"
-    " group by 1 order by 3 desc, 2 desc, 1"
-)
 
 
 def files_words(count: int, high: int) -> str:
@@ -27,8 +22,7 @@ def files_words(count: int, high: int) -> str:
 
 def high_line(table: Table, package: str, width: int) -> str:
     """The paths of a package's changes of severity high."""
-    high = table.paths(f"{RECORDED} and level = 0 and package = ?", package)
-    paths = [path for path, _ in high]
+    paths = table.high_paths(package)
     each = width and (width - len("    ")) // len(paths) - len(", ")
     return "    " + ", ".join(shortened_path(path, each) for path in paths)
 
@@ -37,7 +31,7 @@ def recorded_lines(table: Table, limit: int, width: int) -> Iterator[str]:
     """A line for each package, as in "openssl 3.0.17-1: 41 files", and one for the paths of
     severity high if they are few."""
     packages = files = all_high = 0
-    for number, (package, count, high) in enumerate(table.ask(RECORDED_OF)):
+    for number, (package, count, high) in enumerate(table.packages()):
         if number < limit:
             yield f"  {guarded(package)[:MAX_PACKAGE_NAME]}: {files_words(count, high)}"
             if 0 < high <= MAX_HIGH:
