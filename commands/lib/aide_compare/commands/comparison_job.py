@@ -156,11 +156,11 @@ class ComparisonJob:
                 place = state_output(state_path)
                 rows.append(JobOutput(place, state_bytes, self.outputs.keeps_failure))
         except Fault as fault:
-            reason = comparison.fault or fault
-            self._keep_failure(reason)
-            if reason is not fault:
-                reason.more += (fault.text,)
-            raise reason
+            first = comparison.fault
+            self._keep_failure(first or fault)
+            if first:
+                raise Fault(first.status, first.text, *first.more, fault.text) from None
+            raise
         self.rows = [*rows, *self.outputs.after]
 
     def _keep_failure(self, error: Exception) -> None:
