@@ -23,8 +23,8 @@ from tools.gate import unit_tests
 from tools.gate.affected import Tests
 from tools.lib.arguments import parser_of
 
-# The check of the language Python, which reads all files of it and takes most of a minute.
-PYTHON = "tests.source.test_python"
+# The checks of files in Python, which take most of a minute and some seconds.
+PYTHON = ("tests.source.test_python", "tests.source.test_tools")
 PYTHON_ENDS = (".py", "commands/bin/aide-compare", "packaging/completions", "packaging/install")
 # What compares the options of the commands with the manual.
 OPTIONS_IN_MANUAL = "tests.pages.test_blocks"
@@ -126,7 +126,7 @@ def main() -> int:
     modules = unit_tests.modules() if args.all else tests_for(names, tally)
     checks = set(unit_tests.modules(unit_tests.SOURCE))
     if not args.all and not any(name.endswith(PYTHON_ENDS) for name in names):
-        checks.remove(PYTHON)
+        checks.difference_update(PYTHON)
     unit_tests.run_all(sorted(checks), tally)
     waiting = [module for module in modules if module not in checks]
     program = find_program(tally, args.all and VARIABLE in os.environ) if waiting else None
