@@ -3,6 +3,7 @@ changes only; and commands over many hosts that are given the name of one."""
 from __future__ import annotations
 
 import os
+import time
 
 from tests.lib.terminal import Terminal
 
@@ -15,6 +16,8 @@ PROMPT = b"? [y/N] "
 # A night in which nothing but a time differs.
 BEFORE = Night().file(b"/srv/a", b"text").database()
 TOUCHED = Night().file(b"/srv/a", b"text", mtime=time_of(2000)).database()
+UPGRADED = Night().file(b"/srv/a", b"other").database()
+UPGRADED_TOUCHED = Night().file(b"/srv/a", b"other", mtime=time_of(2000)).database()
 
 
 class HostsAcceptTest(CommandTest):
@@ -67,6 +70,24 @@ class HostsAcceptTest(CommandTest):
         again = self.fleet.call(ACCEPT, "--silent", "--quiet", hosts)
         self.assertEqual((again.status, again.output), (0, b""), again)
 
+    def test_canary(self) -> None:
+        """An accepted canary keeps its baseline for a week: another acceptance would end what it
+        accounts for on late hosts."""
+        self.fleet.put("www", UPGRADED, BEFORE)
+        hosts = self.fleet.list_hosts("www")
+        self.fleet.compare("--canary", "www", hosts)
+        accepted = self.fleet.call(ACCEPT, "--sha256", sha256(UPGRADED), "www")
+        self.assertEqual(accepted.status, 0, accepted)
+        self.fleet.put("www", UPGRADED_TOUCHED, None)
+        self.fleet.compare("--canary", "www", hosts)
+        said = self.fleet.call(ACCEPT, "--silent", hosts)
+        self.assertEqual((said.status, self.baseline("www")), (0, UPGRADED), said)
+        self.assertRegex(said.output_text, r"\Awww is not accepted: it was a canary within .*\n\Z")
+        long_ago = time.time() - 8 * 86400
+        os.utime(self.path("store/hosts/www/listed"), (long_ago, long_ago))
+        said = self.fleet.call(ACCEPT, "--silent", hosts)
+        self.assertEqual((said.status, self.baseline("www")), (0, UPGRADED_TOUCHED), said)
+
     def test_exchanged(self) -> None:
         """Another database that came after the comparison is refused, and the others go on."""
         for host in ("first", "second"):
@@ -85,8 +106,8 @@ class HostsAcceptTest(CommandTest):
         hosts = self.fleet.list_hosts("quiet")
         self.fleet.compare(hosts)
         state = self.read("store/states/quiet").decode()
-        time = self.state("store/states/quiet")["time"]
-        self.write("store/states/quiet", state.replace(time, str(int(time) - 2 * 86400)))
+        then = self.state("store/states/quiet")["time"]
+        self.write("store/states/quiet", state.replace(then, str(int(then) - 2 * 86400)))
         said = self.fleet.call(ACCEPT, "--silent", hosts)
         self.assertEqual((said.status, self.baseline("quiet")), (0, BEFORE), said)
         self.assertIn("quiet is not accepted: was not compared for", said.output_text)

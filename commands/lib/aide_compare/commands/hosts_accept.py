@@ -28,6 +28,7 @@ from aide_compare.base.processes import limit_memory
 from aide_compare.base.terminal import answer_to
 from aide_compare.commands import accept, hosts_report
 from aide_compare.commands.accept import YES, AcceptRequest
+from aide_compare.hosts.canary import has_listed
 from aide_compare.hosts.hosts_file import hosts_of
 from aide_compare.hosts.hosts_read import read_host
 from aide_compare.hosts.report_values import Host
@@ -114,14 +115,28 @@ def digest_after_question(request: HostAcceptRequest, name: str) -> str:
     return digest
 
 
+def reason_against(request: HostAcceptRequest, host: Host) -> str:
+    """Why a host is not accepted without a question; an empty text if it is."""
+    if not host.is_silent:
+        return host.error or f"{host.open} open"
+    with closing(HostDirectory(request.store, host.name, request.seconds)) as directory:
+        if has_listed(directory):
+            return "it was a canary within the last 7 days, and late hosts need its report"
+    return ""
+
+
 def silent_hosts(request: HostAcceptRequest) -> Iterator[Host]:
-    """The hosts that differ by silent changes only. Of all others a line says why they do not."""
+    """The hosts that differ by silent changes only, without a canary that others still need. Of all
+    others that differ a line says why they are not accepted."""
     for name in hosts_of(request.host or HOSTS_FILE, request.store):
         host = read_host(name, request.store, request.seconds, MAX_RESULT_AGE)
-        if host.is_silent:
+        if not (host.status or host.is_silent):
+            continue
+        reason = reason_against(request, host)
+        if not reason:
             yield host
-        elif host.status and not request.is_quiet:
-            tell(f"{host.name} is not accepted: {host.error or f'{host.open} open'}")
+        elif not request.is_quiet:
+            tell(f"{host.name} is not accepted: {reason}")
 
 
 def main(arguments: Sequence[str]) -> int:

@@ -90,13 +90,20 @@ def copies_of(
     return copies
 
 
+def has_listed(directory: HostDirectory) -> bool:
+    """Whether the host was a canary that listed something, some days ago at most: hosts that lag
+    behind need its pair, which ends when the host is accepted anew."""
+    with suppress(OSError):
+        return abs(time.time() - os.stat(LISTED, dir_fd=directory.fd).st_mtime) < MAX_LAG
+    return False
+
+
 def listed_pair(directory: HostDirectory, rules: str) -> Pair | None:
     """The pair that has listed something the last time, if that was some days ago at most, and if
     the same would be listed today."""
     with suppress(Fault, OSError, ValueError, TypeError):
         pair = Pair(*json.loads(read_file(directory.file(LISTED), MAX_TEXT)))
-        age = abs(time.time() - os.stat(LISTED, dir_fd=directory.fd).st_mtime)
-        if pair.rules == rules and age < MAX_LAG:
+        if pair.rules == rules and has_listed(directory):
             return pair
     return None
 
