@@ -133,10 +133,11 @@ class Table(Rows):
         def kept() -> Iterator[ChangeRow]:
             size = 0
             for values in changes:
-                _, _, kind, owners, rank, *_ = values
-                if size >= MAX_ROWS and owners != 0:
-                    others[kind, owners, rank // RANKS] += 1
-                    continue
+                if size >= MAX_ROWS:
+                    kind, owners, rank = values[2:5]
+                    if owners != 0:
+                        others[kind, owners, rank // RANKS] += 1
+                        continue
                 size += 1
                 if size > 2 * MAX_ROWS:
                     raise DeviceFault(f"there are more than {2 * MAX_ROWS} changes that are root's")

@@ -151,7 +151,8 @@ def parsed(line: bytes) -> Any:
 
 def account_of(fields: Fields) -> Standing | None:
     """What accounts for the change of a proved line; None if nothing does."""
-    if left_out_by(fields):
+    if LEFT_OUT in fields:
+        left_out_by(fields)
         return Standing.LEFT_OUT
     if "same_as" in fields:
         return STANDING_BY_PROOF[fields["same_as"]]

@@ -20,7 +20,6 @@ from aide_compare.base.words import KINDS, SEVERITIES, SIDES, capitalized, minut
 from aide_compare.lines.attributes import CONTENT, FORMS, STRENGTH, word_of
 from aide_compare.changes.table import BY_PACKAGE, LISTED, RECORDED, Marks
 from aide_compare.lines.change import (
-    Change,
     Counts,
     Fields,
     Standing,
@@ -31,7 +30,8 @@ from aide_compare.lines.change import (
     parsed,
 )
 from aide_compare.lines.readable import texts_of
-from aide_compare.lines.reader import embedded
+from aide_compare.lines.reader import HEX, embedded
+from aide_compare.lines.rights import bytes_of, same_rights
 from aide_compare.show.json_lines import marked_lines
 from aide_compare.show.brief import brief_of
 
@@ -61,6 +61,7 @@ MAX_DIGEST = 200000
 MAX_PATH_TEXT = 1000
 MAX_NOTES = 20
 BESIDE = len(b"[,],\n")
+MIN_HEAD = 60  # No head has fewer bytes, with those beside it.
 # Of a value of a host.
 MAX_VALUE = 100000
 MAX_NUMBER = 1 << 53  # A script would round it.
@@ -132,22 +133,28 @@ def values_of(values: Values, texts: Texts) -> Fields:
 
 
 @lru_cache(maxsize=256)
-def labels_of(*names: str) -> bytes:
-    """The attributes that people read of a change as JSON, by those of both of its sides."""
+def labels_of(*members: str) -> bytes:
+    """The attributes that people read of a change as JSON, by the members of both of its sides."""
+    names = {name.removesuffix(HEX) for name in members}
     return embedded(" ".join(label for label in FORMS if label in names))
 
 
-def both_values(change: Change) -> Fields:
-    """The values of both sides of a change."""
+def both_values(fields: Fields) -> bytes:
+    """The values of both sides of the object of a change, as JSON."""
+    change = change_of(fields)
     texts = texts_of(change)
-    return {"old": values_of(change.old, texts.old), "new": values_of(change.new, texts.new)}
+    old = values_of(change.old, texts.old)
+    return embedded({"old": old, "new": values_of(change.new, texts.new)})
 
 
-def head_of(change: Change, marks: bytes) -> bytes:
-    """What the row of a change always has, with some marks as the end of an object."""
-    path = embedded(shown(change.path))
-    labels = labels_of(*change.old, *change.new)
-    return b'{"kind":"%b","path":%b,"labels":%b%b' % (change.kind.encode(), path, labels, marks)
+def head_of(fields: Fields, marks: bytes) -> bytes:
+    """What the row of a change always has, with some marks as the end of an object. No value is
+    made for it."""
+    hidden = same_rights(fields)
+    members = [name for side in SIDES for name in fields.get(side, ()) if name not in hidden]
+    kind = embedded(fields["kind"])
+    path = embedded(shown(bytes_of(fields, "path")))
+    return b'{"kind":%b,"path":%b,"labels":%b%b' % (kind, path, labels_of(*members), marks)
 
 
 class PageRows:
@@ -156,6 +163,7 @@ class PageRows:
 
     def __init__(self, limit: int) -> None:
         self.limit = limit  # Of the bytes of a page.
+        self.total = 0  # So many changes come, if that is known.
         self.file = private_file()  # Of each change a line with its head, and one with its values.
         self.size = 0  # Of all heads.
         self.values_size = 0
@@ -164,24 +172,20 @@ class PageRows:
         self.valued = 0
 
     def add(self, fields: Fields, marks: Marks) -> None:
-        change = change_of(fields)
-        head = head_of(change, marks.members())
+        head = head_of(fields, marks.members())
         self.size += len(head) + BESIDE
         self.count += 1
         values = b""
-        if self.values_size <= self.for_values(self.limit):
-            values = embedded(both_values(change))
+        heads = self.size + max(self.total - self.count, 0) * MIN_HEAD
+        if self.values_size <= max(self.limit - heads, self.limit // 8):
+            values = both_values(fields)
             self.values_size += len(values)
         self.file.write(head + b"\n" + values + b"\n")
-
-    def for_values(self, room: int) -> int:
-        """What the heads leave to values, never less than an eighth. It shrinks with each head."""
-        return max(room - self.size, room // 8)
 
     def chosen(self, room: int) -> Iterator[bytes]:
         """Yields the rows for which there is room: of all changes the heads, if these take no more
         than seven eighths of it, and of the first ones the values."""
-        for_values = self.for_values(room)
+        for_values = max(room - self.size, room // 8)
         for_heads = room - for_values
         self.file.seek(0)
         for head_line, values_line in zip(self.file, self.file):
@@ -256,6 +260,7 @@ def page_of(
     """The page of a comparison."""
     rows = PageRows(limit)
     if judged:
+        rows.total = judged.changes - judged.only_counted
         for fields, marks in changes_in_order(judged):
             rows.add(fields, marks)
     else:
