@@ -133,9 +133,11 @@ def values_of(values: Values, texts: Texts) -> Fields:
 
 
 @lru_cache(maxsize=256)
-def labels_of(*members: str) -> bytes:
-    """The attributes that people read of a change as JSON, by the members of both of its sides."""
-    names = {name.removesuffix(HEX) for name in members}
+def labels_of(kind: str, letters: str, old: tuple[str, ...], new: tuple[str, ...]) -> bytes:
+    """The attributes that people read of a change as JSON, by its kind, its summary string and the
+    members of both of its sides."""
+    hidden = same_rights({"kind": kind, "summary": letters, "old": old, "new": new})
+    names = {name.removesuffix(HEX) for name in (*old, *new) if name not in hidden}
     return embedded(" ".join(label for label in FORMS if label in names))
 
 
@@ -150,11 +152,11 @@ def both_values(fields: Fields) -> bytes:
 def head_of(fields: Fields, marks: bytes) -> bytes:
     """What the row of a change always has, with some marks as the end of an object. No value is
     made for it."""
-    hidden = same_rights(fields)
-    members = [name for side in SIDES for name in fields.get(side, ()) if name not in hidden]
-    kind = embedded(fields["kind"])
+    kind = fields["kind"]
+    sides = [tuple(fields.get(side, ())) for side in SIDES]
+    labels = labels_of(kind, fields.get("summary", ""), *sides)
     path = embedded(shown(bytes_of(fields, "path")))
-    return b'{"kind":%b,"path":%b,"labels":%b%b' % (kind, path, labels_of(*members), marks)
+    return b'{"kind":%b,"path":%b,"labels":%b%b' % (embedded(kind), path, labels, marks)
 
 
 class PageRows:
