@@ -193,7 +193,7 @@ class BrowserTest(CommandTest):
         self.shows(PATHS + ".slice(0, 4)", first.split())
         heading = "document.querySelector('#list h2').textContent"
         self.shows(heading, "Open, severity high: 4 entries")
-        self.shows(FACTS, "-rwsr-xr-x, 0:0, 18344 bytes")
+        self.shows(FACTS, "-rwsr-xr-x, root:root, 18344 bytes")
         self.click("#list summary", "etc/passwd")
         titles = f"[...document.querySelectorAll('{OPENED} th[scope=row]')]"
         self.shows(f"{titles}.map((one) => one.textContent)", ["size", "mtime", "SHA256"])
