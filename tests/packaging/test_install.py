@@ -203,7 +203,7 @@ class InstallingTest(InstallTest):
         self.assertEqual((done.status, done.error_text), (0, ""), done)
         done = self.install("--help")
         self.assertEqual((done.status, "--uninstall" in done.output_text), (0, True), done)
-        self.assertIn("20 minutes", done.output_text)
+        self.assertIn("16 minutes", done.output_text)
 
     def test_byte_code(self) -> None:
         """Byte code is made below a prefix, is in step with the modules, and goes with them."""
