@@ -1,5 +1,5 @@
-"""aide-compare hosts accept: what was fetched from a host becomes its baseline, by its digest, by an
-answer on a terminal, or since all changes of the host are silent."""
+"""aide-compare hosts accept: what was fetched from a host becomes its baseline, by its digest, by
+an answer on a terminal, or since all changes of the host are silent."""
 from __future__ import annotations
 
 import os

@@ -48,7 +48,8 @@ class Standing(Enum):
 STANDING_BY_PROOF = {"old": Standing.SAME, "trusted": Standing.TRUSTED}
 LEFT_OUT = "left_out"  # The member of a proved line with the number of the list's line.
 # What decides on what is reported: settings, the table of severities, AIDE's configuration, its
-# units, the units and cron jobs of the comparison. No trusted pair accounts for a change there, whatever happened on its machine.
+# units, the units and cron jobs of the comparison. No trusted pair accounts for a change there,
+# whatever happened on its machine.
 WATCHERS = (
     rb"(?s)/etc/aide-compare(?:/.*)?|/etc/aide(?:/.*)?|/etc/aide\.conf|/etc/default/aide"
     rb"|/etc/cron\.(?:daily/zz-aide-compare|d/aide-compare-fleet)|/usr/(?:.*/)?share/aide-compare/.*"
