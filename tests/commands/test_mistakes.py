@@ -14,7 +14,7 @@ PAIR = ("old.db", "new.db")
 # Functions that a comparison calls after the program has answered, by their modules.
 PLACES = {
     "judging": "changes.judged.Judged._values",
-    "severity": "changes.severity.Severity.ranks",
+    "severity": "changes.severity.Severity.rank",
     "brief": "show.brief.brief",
     "mail": "mail.text.end_lines",
     "subject": "commands.mail.subject_of",

@@ -204,7 +204,7 @@ def lacking(old: Side, new: Side) -> Iterator[tuple[str, Side, Side]]:
 
 
 def rank_of(path: bytes, old: Side, new: Side, table: Severity = SHIPPED_TABLE) -> int:
-    return table.ranks(path.rpartition(b"/")[0], results_of(old, new))(path.rpartition(b"/")[2])
+    return table.rank(path, results_of(old, new))
 
 
 def level_of(path: bytes, old: Side, new: Side, table: Severity = SHIPPED_TABLE) -> str:

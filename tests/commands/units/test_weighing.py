@@ -39,7 +39,7 @@ def weighed(weights: Weights, fields: dict[str, Any]) -> tuple[Weight, int]:
     """What is known of a line, which is what nothing is remembered for, and its rank."""
     known = weights.of(change_line(fields, line_of(fields)))
     assert known == weight_of(fields), fields
-    return known, Severity().ranks(b"/srv", known.results)(b"x")
+    return known, Severity().rank(b"/srv/x", known.results)
 
 
 class WeighingTest(ModuleTest):

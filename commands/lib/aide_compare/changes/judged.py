@@ -18,7 +18,7 @@ from aide_compare.base.words import SEVERITIES, counted, status_of_counts
 from aide_compare.changes.recorded import Dpkg, Matcher, Rpm
 from aide_compare.changes.severity import Severity
 from aide_compare.changes.table import Marks, Table, ChangeRow
-from aide_compare.changes.weighing import OTHERS, Weight, Weights, directory_of, is_of_directory
+from aide_compare.changes.weighing import OTHERS, Weights, directory_of, is_of_directory
 from aide_compare.compare.line_room import NO_OTHERS, Others
 from aide_compare.lines.change import Change, ChangeLine, Counts, Fields, Standing
 from aide_compare.lines.change import change_line, change_of, parsed
@@ -86,8 +86,6 @@ class Judged:
         weights = Weights()
         line_at = self.begin
         place = 0
-        last: Weight | None = None
-        above = b""
         for change in reader.changes():
             size = len(change.line)
             silent = change.silent
@@ -100,21 +98,12 @@ class Judged:
                 place += 1
                 if place <= MAX_KEPT and size <= MAX_LINE:
                     self._kept[place] = change
-                directory, _, name = change.path.rpartition(b"/")
-                weight = weights.of(change)
-                key = change.key
-                # Most changes are in the directory of the one before. The root is in none.
-                if weight is not last or directory != above or not directory:
-                    last = weight
-                    above = directory
-                    results, owners, user, recordable, has_other_links = weight
-                    rank_of = severity.ranks(directory, results)
-                    directory_key = directory_of(key)
-                kind = change.kind
-                rank = rank_of(name)
+                results, owners, user, recordable, has_other_links = weights.of(change)
                 if has_other_links and len(self.members) < MAX_MEMBERS:
                     self.members[change.path] = ""
-                yield key, directory_key, kind, owners, rank, user, recordable, line_at, size
+                above = directory_of(change.key)
+                rank = severity.rank(change.path, results)
+                yield change.key, above, change.kind, owners, rank, user, recordable, line_at, size
             line_at += size
 
     def _note_member(self, change: ChangeLine) -> None:

@@ -153,31 +153,26 @@ TESTS: dict[str, Callable[[Side, Side], bool]] = {
 }
 
 
-class TestResults(NamedTuple):
-    """What the rights of an entry on both sides mean: the bits of the tests that hold, and whether
-    somebody has other rights on the programs in it, a directory."""
-
-    tests: int
-    opens_programs: bool
+# What the rights of an entry on both sides mean: the words of the tests that hold.
+TestResults = frozenset[str]
 
 
 def results_of(old: Side, new: Side) -> TestResults:
     """What the rights of an entry on both sides mean."""
-    held = sum(BITS[word] for word, test in TESTS.items() if test(old, new))
-    opens = BITS["changed"] | BITS["directory"]
-    return TestResults(held, held & (opens | BITS["same-rights"]) == opens)
+    return frozenset(word for word, test in TESTS.items() if test(old, new))
 
 
-# The bit of each test in a number that says which hold.
-BITS = {word: 1 << place for place, word in enumerate(TESTS)}
+def opens_programs(results: TestResults) -> bool:
+    """Whether somebody has other rights on the programs in an entry, a directory."""
+    return "same-rights" not in results and results.issuperset(("changed", "directory"))
 
 
 class Rule(NamedTuple):
-    """One pattern of a line: the rank, by the level and the line's place in the table, and the bits
-    of the tests, which all have to hold."""
+    """One pattern of a line: the rank, by the level and the line's place in the table, and the
+    tests, which all have to hold."""
 
     rank: int
-    tests: int
+    tests: TestResults
     pattern: Pattern
 
 
@@ -187,32 +182,24 @@ class DirectoryRules:
 
     def __init__(self, rows: list[tuple[Rule, tuple[int, ...]]]) -> None:
         self.rows = rows
-        # What tests the next piece of a path. Most pieces pass none, and these are all alike.
-        self.steps = {row.pattern.tests[place] for row, places in rows for place in places}
-        self.other: DirectoryRules | None = None
 
     @lru_cache(maxsize=256)
     def below(self, piece: bytes) -> DirectoryRules:
         """The same of a directory in this one."""
-        passes = any(step and step(piece) for step in self.steps)
-        if self.other and not passes:
-            return self.other
         after = ((row, row.pattern.after(places, piece)) for row, places in self.rows)
         rows = [(row, places) for row, places in after if places]
-        # As in most directories that are deep.
-        inside = self if rows == self.rows else DirectoryRules(rows)
-        if not passes:
-            self.other = inside
-        return inside
+        if rows == self.rows:  # As in most directories that are deep.
+            return self
+        return DirectoryRules(rows)
 
     @lru_cache(maxsize=256)
-    def tests(self, held: int) -> list[tuple[Test | None, int]]:
+    def tests(self, results: TestResults) -> list[tuple[Test | None, int]]:
         """The tests of the last piece of a path, None for any, by the rows of which the other tests
         hold."""
         return [
             (row.pattern.tests[-2], row.rank)
             for row, places in self.rows
-            if not row.tests & ~held and len(row.pattern.pieces) - 1 in places
+            if row.tests <= results and len(row.pattern.pieces) - 1 in places
         ]
 
 
@@ -255,36 +242,29 @@ class Severity:
         for word in words:
             if word not in TESTS:
                 raise Fault(Status.USAGE, f"{place}: unknown test: {shown(word, 100)}")
-        tests = sum(BITS[word] for word in set(words))
         for part in parts[1:]:
             rank = SEVERITIES.index(level) * RANKS + number
-            yield Rule(rank, tests, pattern_of(part, place))
+            yield Rule(rank, frozenset(words), pattern_of(part, place))
 
-    def ranks(self, directory: bytes, held: TestResults) -> Callable[[bytes], int]:
-        """What says by the name of an entry in this directory how much a change of it matters, by
-        what its rights mean.
+    def rank(self, path: bytes, results: TestResults) -> int:
+        """How much a change at this path matters, by what its rights mean.
 
         Who has other rights on a directory than before has them on the programs in it, so the
         greater of both counts.
         """
-        # No longer path has a row, so it is not kept: a host can have any number of them.
-        tests = self._in(directory[:MAX_PATH], held.tests)
-
-        def rank_of(name: bytes) -> int:
-            if len(directory + name) >= MAX_PATH:
-                return OTHER_RANK
-            rank = first_rank(tests, name)
-            if not held.opens_programs:
-                return rank
-            programs = self._in(directory + b"/" + name, results_of(PROGRAM, PROGRAM).tests)
-            return min(rank, first_rank(programs, b"*"))
-
-        return rank_of
+        if len(path) > MAX_PATH:
+            return OTHER_RANK
+        directory, _, name = path.rpartition(b"/")
+        rank = first_rank(self._in(directory, results), name)
+        if not opens_programs(results):
+            return rank
+        programs = self._in(path, results_of(PROGRAM, PROGRAM))
+        return min(rank, first_rank(programs, b"*"))
 
     @lru_cache(maxsize=64)
-    def _in(self, directory: bytes, held: int) -> list[tuple[Test | None, int]]:
+    def _in(self, directory: bytes, results: TestResults) -> list[tuple[Test | None, int]]:
         """What the rows say of the entries of a directory."""
         inside = self.top
         for piece in directory.split(b"/", MAX_PIECES)[1:MAX_PIECES]:
             inside = inside.below(piece)
-        return inside.tests(held)
+        return inside.tests(results)

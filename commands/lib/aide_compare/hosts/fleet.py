@@ -106,8 +106,7 @@ class Fleet:
     def add(self, host: int, change: ChangeLine) -> None:
         """Takes a change of the host with this number."""
         known = self.weights.of(change)
-        directory, _, name = change.path.rpartition(b"/")
-        rank = self.severity.ranks(directory, known.results)(name)
+        rank = self.severity.rank(change.path, known.results)
         fields = differing(change.fields)
         word = fields.get("type", "Entry")
         own = OWN
@@ -119,7 +118,7 @@ class Fleet:
         row = (
             host,
             change.key,
-            directory,
+            change.path.rpartition(b"/")[0],
             digest_of(what, sorted(labels - own), without(new, own)),
             change.kind,
             known.owners,
