@@ -59,7 +59,6 @@ class TableTest(ModuleTest):
         with mock.patch.object(sqlite3, "connect", side_effect=sqlite3.OperationalError("why")):
             self.fails(18, "name another directory by TMPDIR): why", Table)
 
-    @mock.patch("aide_compare.show.digest.ENOUGH", 9)
     def test_few(self) -> None:
         """Of a directory of a user a mail lists a few changes of severity low, and no later ones
         because he has many."""

@@ -11,7 +11,6 @@ from __future__ import annotations
 import re
 from collections import Counter
 from collections.abc import Callable, Iterable, Iterator, Sequence
-from itertools import chain, islice
 from typing import Any, NamedTuple
 
 from aide_compare.base.escapes import shown
@@ -25,8 +24,6 @@ MAX_LETTERS = 400  # Of a path in a line of any width.
 MIN_WIDTH = 24  # Of a path, however little room there is.
 # What a line without room leaves out first of a new entry, whose mode says more.
 SIZE = " [0-9]+ bytes$"
-# So many rows of an answer are mostly enough, and take half as long as all.
-ENOUGH = 1000
 
 # The words, in so many columns, for a group by which the changes that are not listed are counted.
 Names = Callable[[Any, int], str]
@@ -137,10 +134,7 @@ def chosen(table: Rows, level: int, owners: int, limit: int, room: Room) -> list
     later_more: list[int] = []
     spent: Counter[object] = Counter()
     turns: Counter[object] = Counter()
-    question = room.questions.in_order
-    first_rows = table.ask(f"{question} limit {ENOUGH}", level, owners)
-    others = islice(table.ask(question, level, owners), ENOUGH, None)
-    for place, user, group in chain(first_rows, others):
+    for place, user, group in table.ask(room.questions.in_order, level, owners):
         if len(first) == limit:
             break
         # Not of root, and not of hosts.
