@@ -44,7 +44,7 @@ def order_of(fields: Fields) -> tuple[str, int]:
 
 def page_over(objects: list[Fields], limit: int = MAX_PAGE) -> bytes:
     """The page of the objects of lines, with the standings that they say."""
-    rows = PageRows(limit)
+    rows = PageRows()
     for fields in sorted(changes_of(objects), key=order_of):
         marks = (fields.get(name, "") for name in Marks._fields)
         rows.add(fields, Marks(*marks))

@@ -20,7 +20,7 @@ from aide_compare.changes.severity import Severity
 from aide_compare.changes.table import Marks, Table, ChangeRow
 from aide_compare.changes.weighing import OTHERS, Weights, directory_of, is_of_directory
 from aide_compare.compare.line_room import NO_OTHERS, Others
-from aide_compare.lines.change import Change, ChangeLine, Counts, Fields, Standing
+from aide_compare.lines.change import Change, ChangeLine, Counts, Standing
 from aide_compare.lines.change import change_line, change_of, parsed
 from aide_compare.lines.reader import Reader
 
@@ -57,8 +57,7 @@ class Judged:
         self._standings = bytearray()  # Of all, by their places among STANDINGS.
         self.table = Table()
         beyond = self.table.add(self._values(reader))
-        self.lines_there = reader.counts.changes
-        self.changes = self.lines_there + sum(others.values())  # How many there are.
+        self.changes = reader.counts.changes + sum(others.values())  # How many there are.
         self.only_counted = beyond + self._count(others)  # They are not in the table.
 
     def _count(self, others: Others) -> int:
@@ -142,26 +141,18 @@ class Judged:
 
     def lines(self) -> Iterator[tuple[bytes, Marks]]:
         """Yields the lines of all changes in the order of paths, with their marks."""
-        nothing = 0, 0, 0, Marks("")
+        nothing = 0, 0, Marks("")
         others = self.table.marks(order="place")
-        _, next_at, _, marks = next(others, nothing)
+        _, next_at, marks = next(others, nothing)
         self.file.seek(self.begin)
         line_at = self.begin
         for line, standing in zip(self.file, self._standings):
             if line_at == next_at:
                 yield line, marks
-                _, next_at, _, marks = next(others, nothing)
+                _, next_at, marks = next(others, nothing)
             else:
                 yield line, Marks(STANDINGS[standing].value)
             line_at += len(line)
-
-    def fields(self, place: int, line_at: int, line_size: int) -> Fields:
-        """The object of the line of the change at a place of the table, which begins there."""
-        change = self._kept.get(place)
-        if change is None:
-            fields: Fields = parsed(os.pread(self.file.fileno(), line_size, line_at))
-            return fields
-        return change.fields
 
     def line(self, place: int) -> ChangeLine:
         """The line of the change at a place of the table."""

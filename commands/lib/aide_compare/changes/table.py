@@ -189,13 +189,12 @@ class Table(Rows):
 
     def marks(
         self, condition: str = "true", order: str = ORDER
-    ) -> Iterator[tuple[int, int, int, Marks]]:
-        """Yields the places of changes, where their lines begin, the sizes of these, and their
-        marks, in an order."""
-        columns = "place, line_at, line_size, standing, level, package"
+    ) -> Iterator[tuple[int, int, Marks]]:
+        """Yields the places of changes, where their lines begin, and their marks, in an order."""
+        columns = "place, line_at, standing, level, package"
         question = f"select {columns} from changes where {condition} order by {order}"
-        for place, line_at, line_size, standing, level, package in self.ask(question):
-            yield place, line_at, line_size, Marks(standing, SEVERITIES[level], package)
+        for place, line_at, standing, level, package in self.ask(question):
+            yield place, line_at, Marks(standing, SEVERITIES[level], package)
 
     def record(self, packages: Iterable[tuple[str, int]]) -> None:
         """Notes that packages have the changes at some places, each the first that is named."""

@@ -75,8 +75,8 @@ def shared_row(shared: SharedChange, hosts: int) -> bytes:
         "per_host": shared.per_host,
     }
     known = {name: mark for name, mark in marks.items() if mark}
-    head = head_of(shared.fields, embedded(known).replace(b"{", b",", 1))
-    return b"[%b,%b]" % (head, both_values(shared.fields))
+    head = head_of(shared.change, embedded(known).replace(b"{", b",", 1))
+    return b"[%b,%b]" % (head, both_values(shared.change))
 
 
 def hosts_page(report: Report, limit: int = 0) -> Iterator[bytes]:

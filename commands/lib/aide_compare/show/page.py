@@ -8,7 +8,6 @@ import hashlib
 import json
 import os
 from collections.abc import Callable, Iterable, Iterator
-from functools import lru_cache
 from html import escape
 from itertools import chain
 from typing import TYPE_CHECKING
@@ -20,6 +19,7 @@ from aide_compare.base.words import KINDS, SEVERITIES, SIDES, capitalized, minut
 from aide_compare.lines.attributes import CONTENT, FORMS, STRENGTH, word_of
 from aide_compare.changes.table import BY_PACKAGE, LISTED, RECORDED, Marks
 from aide_compare.lines.change import (
+    Change,
     Counts,
     Fields,
     Standing,
@@ -30,8 +30,7 @@ from aide_compare.lines.change import (
     parsed,
 )
 from aide_compare.lines.readable import texts_of
-from aide_compare.lines.reader import HEX, embedded
-from aide_compare.lines.rights import bytes_of, same_rights
+from aide_compare.lines.reader import embedded
 from aide_compare.show.json_lines import marked_lines
 from aide_compare.show.brief import brief_of
 
@@ -61,7 +60,6 @@ MAX_DIGEST = 200000
 MAX_PATH_TEXT = 1000
 MAX_NOTES = 20
 BESIDE = len(b"[,],\n")
-MIN_HEAD = 60  # No head has fewer bytes, with those beside it.
 # Of a value of a host.
 MAX_VALUE = 100000
 MAX_NUMBER = 1 << 53  # A script would round it.
@@ -132,57 +130,37 @@ def values_of(values: Values, texts: Texts) -> Fields:
     return fields
 
 
-@lru_cache(maxsize=256)
-def labels_of(kind: str, letters: str, old: tuple[str, ...], new: tuple[str, ...]) -> bytes:
-    """The attributes that people read of a change as JSON, by its kind, its summary string and the
-    members of both of its sides."""
-    hidden = same_rights({"kind": kind, "summary": letters, "old": old, "new": new})
-    names = {name.removesuffix(HEX) for name in (*old, *new) if name not in hidden}
-    return embedded(" ".join(label for label in FORMS if label in names))
-
-
-def both_values(fields: Fields) -> bytes:
-    """The values of both sides of the object of a change, as JSON."""
-    change = change_of(fields)
+def both_values(change: Change) -> bytes:
+    """The values of both sides of a change, as JSON."""
     texts = texts_of(change)
     old = values_of(change.old, texts.old)
     return embedded({"old": old, "new": values_of(change.new, texts.new)})
 
 
-def head_of(fields: Fields, marks: bytes) -> bytes:
-    """What the row of a change always has, with some marks as the end of an object. No value is
-    made for it."""
-    kind = fields["kind"]
-    sides = [tuple(fields.get(side, ())) for side in SIDES]
-    labels = labels_of(kind, fields.get("summary", ""), *sides)
-    path = embedded(shown(bytes_of(fields, "path")))
-    return b'{"kind":%b,"path":%b,"labels":%b%b' % (embedded(kind), path, labels, marks)
+def head_of(change: Change, marks: bytes) -> bytes:
+    """What the row of a change always has, with some marks as the end of an object."""
+    labels = " ".join(label for label in FORMS if label in change.old or label in change.new)
+    head = {"kind": change.kind, "path": shown(change.path), "labels": labels}
+    return embedded(head)[: -len("}")] + marks
 
 
 class PageRows:
     """The rows of a page, those that matter most first: these have room first, and values go before
     heads."""
 
-    def __init__(self, limit: int) -> None:
-        self.limit = limit  # Of the bytes of a page.
-        self.total = 0  # So many changes come, if that is known.
+    def __init__(self) -> None:
         self.file = private_file()  # Of each change a line with its head, and one with its values.
         self.size = 0  # Of all heads.
-        self.values_size = 0
         self.count = 0
         self.listed = 0
         self.valued = 0
 
     def add(self, fields: Fields, marks: Marks) -> None:
-        head = head_of(fields, marks.members())
+        change = change_of(fields)
+        head = head_of(change, marks.members())
         self.size += len(head) + BESIDE
         self.count += 1
-        values = b""
-        heads = self.size + max(self.total - self.count, 0) * MIN_HEAD
-        if self.values_size <= max(self.limit - heads, self.limit // 8):
-            values = both_values(fields)
-            self.values_size += len(values)
-        self.file.write(head + b"\n" + values + b"\n")
+        self.file.write(b"%b\n%b\n" % (head, both_values(change)))
 
     def chosen(self, room: int) -> Iterator[bytes]:
         """Yields the rows for which there is room: of all changes the heads, if these take no more
@@ -197,7 +175,7 @@ class PageRows:
             if for_heads < 0:
                 return
             self.listed += 1
-            for_values -= len(values) if values else for_values + 1
+            for_values -= len(values)
             if for_values >= 0:
                 self.valued += 1
                 row += b"," + values
@@ -220,8 +198,8 @@ def changes_in_order(judged: Judged) -> Iterator[tuple[Fields, Marks]]:
     """The objects of all changes with their marks, those that are read first before the others."""
     table = judged.table
     marked = chain(table.marks(LISTED), table.marks(RECORDED, order=BY_PACKAGE))
-    for place, line_at, line_size, marks in marked:
-        yield judged.fields(place, line_at, line_size), marks
+    for place, _, marks in marked:
+        yield judged.line(place).fields, marks
     if judged.counts.silent:
         for line, marks in judged.lines():
             if not marks.severity:
@@ -260,9 +238,8 @@ def page_of(
     comparison: Comparison, judged: Judged | None, limit: int = MAX_PAGE
 ) -> Iterator[bytes]:
     """The page of a comparison."""
-    rows = PageRows(limit)
+    rows = PageRows()
     if judged:
-        rows.total = judged.changes - judged.only_counted
         for fields, marks in changes_in_order(judged):
             rows.add(fields, marks)
     else:
