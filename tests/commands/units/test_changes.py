@@ -5,7 +5,8 @@ from typing import Any
 
 from tests.commands.units.calls import ModuleTest
 
-from aide_compare.lines.change import ODD, Change, Counts, Standing, account_of, change_of
+from aide_compare.lines.change import ODD, Change, Counts, Standing, account_of, change_line
+from aide_compare.lines.change import change_of
 
 LINE: dict[str, Any] = {
     "path_hex": "2fff",
@@ -34,12 +35,12 @@ class ChangesTest(ModuleTest):
 
     def test_standings(self) -> None:
         """Only what a proof gives is silent."""
-        rows: list[tuple[dict[str, Any], Standing | None]] = [
-            ({"same_as": "old"}, Standing.SAME),
-            ({"same_as": "trusted"}, Standing.TRUSTED),
-            ({"left_out": 3}, Standing.LEFT_OUT),
-            ({"standing": "same"}, None),
-            ({}, None),
+        rows: list[tuple[dict[str, Any], tuple[Standing | None, int]]] = [
+            ({"same_as": "old"}, (Standing.SAME, 0)),
+            ({"same_as": "trusted"}, (Standing.TRUSTED, 0)),
+            ({"left_out": 3}, (Standing.LEFT_OUT, 3)),
+            ({"standing": "same"}, (None, 0)),
+            ({}, (None, 0)),
         ]
         for fields, silent in rows:
             self.gives(silent, account_of, fields)
@@ -63,8 +64,7 @@ class ChangesTest(ModuleTest):
         ]
         for more in rows:
             with self.subTest(more=more), self.assertRaises(ODD):
-                account_of(more)
-                change_of({**LINE, **more})
+                change_of(change_line({**LINE, **more}, b"").fields)
 
     def test_counts(self) -> None:
         self.expect("no change", set(Counts()), {0})

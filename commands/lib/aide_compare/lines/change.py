@@ -60,13 +60,11 @@ WATCHERS = (
 
 def values_of(side: Fields, hidden: Container[str] = ()) -> Values:
     """The exact values of a side but the hidden ones: numbers, texts, and bytes where these are not
-    UTF-8; a ValueError, TypeError or AttributeError if there is any other."""
+    UTF-8."""
     values: Values = {}
     for name, value in side.items():
         if name in hidden:
             continue
-        if type(value) not in VALUE_TYPES:
-            raise ValueError("a value is a number or a text")
         if name.endswith("_hex"):
             values[name[: -len("_hex")]] = bytes.fromhex(value)
         elif name in NUMBERS and isinstance(value, str):  # A number of more than 53 bits.
@@ -90,17 +88,6 @@ class Change(NamedTuple):
     @property
     def sides(self) -> tuple[Values, Values]:
         return self.old, self.new
-
-
-def left_out_by(fields: Fields) -> int:
-    """The number of the list's line that leaves a change out, 0 if none does; a ValueError for what
-    is no number, or beside another account."""
-    if LEFT_OUT not in fields:
-        return 0
-    line = fields[LEFT_OUT]
-    if "same_as" in fields or type(line) is not int or line <= 0:
-        raise ValueError("another number of a line")
-    return int(line)
 
 
 class ChangeLine(NamedTuple):
@@ -131,14 +118,15 @@ def change_line(fields: Fields, line: bytes) -> ChangeLine:
     """The line of a change with its object; one of ODD if that says no change."""
     path = bytes_of(fields, "path")
     kind = fields["kind"]
+    words = (fields.get("summary", ""), fields.get("type", ""))
     is_change = kind in KINDS and path.startswith(b"/")
-    if not (is_change and isinstance(fields.get("summary", ""), str)):
+    if not is_change or not all(isinstance(word, str) for word in words):
         raise ValueError("no change")
     for side in SIDES:
         if side in fields and not VALUE_TYPES.issuperset(map(type, fields[side].values())):
             raise ValueError("a value is a number or a text")
-    account = account_of(fields)
-    return ChangeLine(fields, path, key_of_path(path), kind, account, left_out_by(fields), line)
+    account, left_out = account_of(fields)
+    return ChangeLine(fields, path, key_of_path(path), kind, account, left_out, line)
 
 
 def parsed(line: bytes) -> Any:
@@ -150,37 +138,28 @@ def parsed(line: bytes) -> Any:
     return value
 
 
-def account_of(fields: Fields) -> Standing | None:
-    """What accounts for the change of a proved line; None if nothing does."""
+def account_of(fields: Fields) -> tuple[Standing | None, int]:
+    """What accounts for the change of a proved line, None if nothing does, and the number of the
+    list's line that leaves it out, or 0. A ValueError for what is no number, or beside another
+    account."""
     if LEFT_OUT in fields:
-        left_out_by(fields)
-        return Standing.LEFT_OUT
+        line = fields[LEFT_OUT]
+        if "same_as" in fields or type(line) is not int or line <= 0:
+            raise ValueError("another number of a line")
+        return Standing.LEFT_OUT, line
     if "same_as" in fields:
-        return STANDING_BY_PROOF[fields["same_as"]]
-    return None
-
-
-def _text_of(fields: Fields, key: str, default: str) -> str:
-    """A member that is a text; a ValueError if it is none."""
-    text = fields.get(key, default)
-    if not isinstance(text, str):
-        raise ValueError(f"{key} is no text")
-    return text
+        return STANDING_BY_PROOF[fields["same_as"]], 0
+    return None, 0
 
 
 def change_of(fields: Fields) -> Change:
-    """The change that the object of a line says; a ValueError, KeyError, TypeError or
-    AttributeError if it says none."""
-    letters = _text_of(fields, "summary", "")
+    """The change that the object of a line says, of which a ChangeLine was made."""
     hidden = same_rights(fields)
-    path = bytes_of(fields, "path")
-    if fields["kind"] not in KINDS or not path.startswith(b"/"):
-        raise ValueError("no change")
     return Change(
-        path=path,
+        path=bytes_of(fields, "path"),
         kind=fields["kind"],
-        type=_text_of(fields, "type", "Entry"),
-        letters=letters,
+        type=fields.get("type", "Entry"),
+        letters=fields.get("summary", ""),
         old=values_of(fields.get("old", {}), hidden),
         new=values_of(fields.get("new", {}), hidden),
     )
