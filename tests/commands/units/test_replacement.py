@@ -181,14 +181,14 @@ class ReplacementTest(PlacesTest):
             self.expect(path + ", then", (text, len(names)), (b"three", 1 + kept))
 
     def test_nameless(self) -> None:
-        self.check_new_files("new/nameless", True)
+        self.check_new_files("new/nameless")
         # As on a file system that does not know files without a name.
         with mock.patch.object(os, "O_TMPFILE", os.O_DIRECTORY):
-            self.check_new_files("new/named", False)
+            self.check_new_files("new/named")
         with mock.patch.dict(os.environ, TMPDIR=self.path("none")):
             self.fails(18, "none (name another directory by TMPDIR): No such", files.nameless)
 
-    def check_new_files(self, name: str, is_nameless: bool) -> None:
+    def check_new_files(self, name: str) -> None:
         """A private file has no name. A new one takes the place of a former one, or is refused
         there; nothing else stays."""
         path = self.path(name)
@@ -208,9 +208,9 @@ class ReplacementTest(PlacesTest):
         before = held()
         new = replacement.Replacement(path + "/state").begin()
         waiting = (os.listdir(path), held() - before)
-        self.assertEqual(waiting, ([], 2 if is_nameless else 1), "what waits has no name")
+        self.assertEqual(waiting, ([], 1), "nothing waits but the directory")
         new.commit([b"x"])
-        self.assertEqual(held() - before, 1, "what waited is put in place")
+        self.assertEqual(held() - before, 1, "nothing more is open")
         new.close()
         begun(path + "/state")
         self.assertEqual(held() - before, 0, "all is closed")

@@ -92,7 +92,6 @@ class Replacement:
         self.mode = mode
         self.what = what
         self.name = os.path.basename(path)
-        self.waiting: list[NewFile] = []  # What was made before the work.
         self._refuse_directory()
         try:
             self.directory = open_directory(os.path.dirname(path) or ".", make=makes_directory)
@@ -100,9 +99,8 @@ class Replacement:
             raise self._fault(error)
 
     def begin(self) -> Replacement:
-        """Finds out before the work whether the file can be made. It waits for its bytes, if it has
-        no name."""
-        self._do(self._reserve)
+        """Finds out before the work whether the file can be made."""
+        self._do(lambda directory: self._new_file(directory).close())
         return self
 
     def commit(self, blocks: Iterable[bytes]) -> None:
@@ -110,8 +108,6 @@ class Replacement:
         self._do(lambda directory: self._put(directory, blocks))
 
     def close(self) -> None:
-        for part in self.waiting:
-            part.close()
         self.directory.close()
 
     def _refuse_directory(self) -> None:
@@ -131,21 +127,12 @@ class Replacement:
         except (Fault, OSError) as error:
             raise self._fault(error)
 
-    def _reserve(self, directory: Directory) -> None:
-        part = self._new_file(directory)
-        if part.name:
-            part.close()
-        else:
-            self.waiting.append(part)
-
     def _new_file(self, directory: Directory) -> NewFile:
-        """The file that waits, or a new one. A regular file is replaced, or none at all: never a
-        device, a link or a FIFO."""
+        """The new file. A regular file is replaced, or none at all: never a device, a link or a
+        FIFO."""
         with suppress(FileNotFoundError):
             status = os.stat(self.name, dir_fd=directory.fd, follow_symlinks=False)
             refuse_other_kinds(status.st_mode)
-        if self.waiting:
-            return self.waiting.pop()
         return NewFile(directory.fd)
 
     def _put(self, directory: Directory, blocks: Iterable[bytes]) -> None:
