@@ -73,7 +73,7 @@ class KeptLinesTest(ModuleTest):
                 room = LineRoom(limit, kept.extend)
                 for at in range(0, len(data), size):
                     room.take(data[at : at + size])
-                if room.lacks_end:
+                if room.end:
                     room.put(room.end_of_kept(end, end_of(end)))
                 self.assertEqual(room.is_cut, len(kept) > 2 * limit or room.size > len(kept))
                 if room.is_cut:

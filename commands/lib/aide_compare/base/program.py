@@ -16,7 +16,6 @@ DESCRIPTORS = {"old": 3, "new": 4, "trusted_old": 6, "trusted_new": 7}
 CONFIGURATION = 5
 DATABASE_LINES = b"database_in=file:/proc/self/fd/3\ndatabase_new=file:/proc/self/fd/4"
 MAX_ERRORS = 1 << 20
-END_BYTES = 1 << 12  # The last line contains only digests, columns and counts.
 # The proved programs that write reports, and lines of JSON or what a configuration says; and the
 # command with all subcommands.
 PROGRAM = "libexec/aide-compare/aide"
@@ -42,22 +41,6 @@ class Answer(NamedTuple):
 
     status: int
     errors: bytes
-
-
-class Tail:
-    """Takes blocks, and keeps their last bytes: of lines, the last one says what was counted."""
-
-    def __init__(self) -> None:
-        self.data = b""
-
-    def take(self, block: bytes) -> None:
-        self.data = (self.data + block)[-END_BYTES:]
-
-    def last_line(self) -> bytes:
-        """The last line; nothing if it has no end."""
-        if not self.data.endswith(b"\n"):
-            return b""
-        return self.data[:-1].rpartition(b"\n")[2]
 
 
 class Drain:

@@ -29,7 +29,7 @@ class LineRoom:
         self.keep = keep
         self.size = 0
         self.others: Others = Counter()
-        self.lacks_end = False  # It is left to whoever knows what is kept.
+        self.end = b""  # The last line, if that is left to whoever knows what is kept.
         self._begin = b""  # Of a line that is not whole yet.
         self._is_inside = False  # The first bytes of a line are kept already.
 
@@ -57,7 +57,7 @@ class LineRoom:
 
     def _take_line(self, line: bytes) -> None:
         if not line.startswith(CHANGE):
-            self.lacks_end = True
+            self.end = line
             return
         change = change_line(parsed(line), line)
         # What decides on reports is open though a trusted pair accounts for it.

@@ -11,7 +11,7 @@ from functools import partial
 from aide_compare.base.ending import DeviceFault, Fault, OSErrorAsFault, Status, write_all
 from aide_compare.base.escapes import shown
 from aide_compare.base.files import nameless, private_place
-from aide_compare.base.program import LINES_PROGRAM, Answer, Tail, find_installed
+from aide_compare.base.program import LINES_PROGRAM, Answer, find_installed
 from aide_compare.base.words import SIDES, TRUSTED_SIDES, age_in_words, counted, words_of_side
 from aide_compare.compare.asking import Settings, ask_for_lines, odd_answer, settings_of
 from aide_compare.compare.comparison import Comparison, Lines, Refusal, ComparisonInput
@@ -25,6 +25,7 @@ from aide_compare.lines.reader import end_of
 
 MAX_CLOCKS_DIFFER = 600
 MIN_LINES = 1 << 12
+END_BYTES = 1 << 12  # The last line contains only digests, columns and counts.
 
 
 def open_databases(comparison: Comparison) -> Sequence[Opened]:
@@ -72,6 +73,14 @@ def refusal_of(comparison: Comparison, answer: Answer) -> Fault:
     return Refusal(answer, hints_of(answer.errors, comparison.texts, path, comparison.copies))
 
 
+def last_line_of(target: int, size: int) -> bytes:
+    """The last line of a file of this size; nothing if it has no end."""
+    text = os.pread(target, END_BYTES, max(size - END_BYTES, 0))
+    if not text.endswith(b"\n"):
+        return b""
+    return text[:-1].rpartition(b"\n")[2]
+
+
 def read_lines(comparison: Comparison) -> Lines:
     """The lines of aide_lines. Beyond a limit only what may be root's is kept."""
     request = comparison.request
@@ -81,12 +90,10 @@ def read_lines(comparison: Comparison) -> Lines:
         target = nameless()
         words += f" in {private_place()}"
     room = LineRoom(max(request.max_report, MIN_LINES), partial(write_all, target))
-    tail = Tail()
 
     def take(block: bytes) -> None:
         with OSErrorAsFault(words):
             room.take(block)
-        tail.take(block)
 
     exclusions = request.exclusions
     without = exclusions.text if exclusions else b""
@@ -96,7 +103,7 @@ def read_lines(comparison: Comparison) -> Lines:
         raise refusal_of(comparison, answer)
     comparison.errors = answer.errors
     try:
-        fields = json.loads(tail.last_line())
+        fields = json.loads(room.end or last_line_of(target, room.size))
         end = end_of(fields)
         digests = {side: str(fields[side]["sha256"]) for side in databases}
         skipped = {side: fields[side]["skipped"] for side in SIDES if fields[side]["skipped"]}
@@ -112,7 +119,7 @@ def read_lines(comparison: Comparison) -> Lines:
         copy.digest = copy.digest or digests[side]
     if exclusions:
         comparison.warnings += exclusions.warnings(comparison.copies["old"])
-    if room.lacks_end:
+    if room.end:
         with OSErrorAsFault(words):
             room.put(room.end_of_kept(fields, end))
     return Lines(target, room.is_cut, end, room.others)
