@@ -1,7 +1,6 @@
 """What the store knows of a host: its state, and the changes in the lines that were kept of it."""
 from __future__ import annotations
 
-import errno
 import fcntl
 import os
 from collections.abc import Callable
@@ -16,10 +15,6 @@ from aide_compare.hosts.report_values import CUT, UNREADABLE, WHOLE, Host
 from aide_compare.hosts.store import LINES, HostDirectory, check_name
 from aide_compare.lines.change import ODD, ChangeLine, Counts, Fields
 from aide_compare.lines.reader import Reader, Refused
-
-# What a disk says of a place that is damaged, and a file system of the network of a file that is
-# gone there.
-DAMAGED = (errno.EIO, errno.EBADMSG, errno.EUCLEAN, errno.ESTALE)
 
 
 def words_of(state: State) -> str:
@@ -81,12 +76,8 @@ def read_changes(
                 listed += 1
         if host.state and host.counts and is_of_run(lines.end, host.state, host.counts):
             report = CUT if listed < host.counts.to_read else WHOLE
-    except (Refused, RecursionError, *ODD):
+    except (Refused, RecursionError, OSError, *ODD):
         pass
-    except OSError as error:
-        # No room for what is read, for one, is no fault of this host.
-        if error.errno not in DAMAGED:
-            raise
     return host._replace(report=report, listed=listed)
 
 
