@@ -310,13 +310,6 @@ def is_likely(entry: FieldsByColumn) -> bool:
     return (has_digest or not is_file) and not has_access_list(entry)
 
 
-def directories_in(copy: Copy) -> dict[bytes, bytes]:
-    """The flags of the directories in a database, by the keys of their paths."""
-    reader = EntryReader(copy)
-    entries = ((key, reader.fields(line)) for key, _, line in reader.entries(OLD_SIDE))
-    return {key: entry.get(FLAGS, ABSENT) for key, entry in entries if is_directory(entry)}
-
-
 def with_index(entry: FieldsByColumn, flags: bytes) -> FieldsByColumn:
     """A directory with these flags, if they differ only in that of an index, by which ext4 finds a
     name faster. Only the file system sets it."""
@@ -335,10 +328,12 @@ def rises_of(before: Set[bytes], now: Set[bytes], upgrades: Upgrades) -> Counter
     return rises
 
 
-def upgraded(old: Copy, new: Copy, upgrades: Upgrades) -> int:
-    """A private file with the database that the old one would be after these upgrades."""
-    flags = directories_in(new)
-    rises = rises_of(directories_in(old).keys(), flags.keys(), upgrades)
+def upgraded(
+    old: Copy, before: Mapping[bytes, bytes], now: Mapping[bytes, bytes], upgrades: Upgrades
+) -> int:
+    """A private file with the database that the old one would be after these upgrades. `before` and
+    `now` are the flags of the directories of both nights."""
+    rises = rises_of(before.keys(), now.keys(), upgrades)
     target = nameless()
     file = open(os.dup(target), "wb", BLOCK)
     reader = EntryReader(old, file.write)
@@ -357,7 +352,7 @@ def upgraded(old: Copy, new: Copy, upgrades: Upgrades) -> int:
             if is_likely(entry):
                 last[entry.get("perm", ABSENT)] = entry
             if is_directory(entry):
-                entry = with_index(entry, flags.get(key, ABSENT))
+                entry = with_index(entry, now.get(key, ABSENT))
             has_type = type_digits(fields) == type_digits(entry)
             if has_type and is_directory(entry):
                 entry = with_links(entry, rises[key])

@@ -131,8 +131,9 @@ def take_packages(
             say(f"new, signed: {shown(own)} {shown(candidates[0]['Version'], 100)}")
 
 
-def upgrades_of(old_copy: Copy, new_copy: Copy, request: ArchiveRequest) -> Upgrades:
-    """What signed packages have brought between two databases."""
+def expected_of(old_copy: Copy, new_copy: Copy, request: ArchiveRequest) -> tuple[int, int]:
+    """A private file with the database to expect by what signed packages have brought between two
+    databases, and how many files were applied."""
     own = next(filter(os.path.lexists, KEYRINGS), KEYRINGS[0])
     named = [os.path.abspath(path) for path in request.keyrings or [own]]
     keyrings = {path: os.path.realpath(path) for path in named}
@@ -166,7 +167,8 @@ def upgrades_of(old_copy: Copy, new_copy: Copy, request: ArchiveRequest) -> Upgr
     removed = (old.lists.keys() - new.lists.keys()) | (old.sums.keys() - new.sums.keys())
     say_each("not applied, it is new", halves - came)
     say_each("not applied, it was removed", removed)
-    return upgrades
+    expected = upgraded(old_copy, old.directories, new.directories, upgrades)
+    return expected, len(upgrades.files)
 
 
 def databases_of(request: ArchiveRequest, arguments: Sequence[str]) -> Sequence[str]:
@@ -199,12 +201,11 @@ def main(arguments: Sequence[str]) -> int:
             replace_by_copy(path, old.fd)
     new = copy_database("new", new_path, request.max_size)
     refuse_unsound(new, old)
-    upgrades = upgrades_of(old, new, request)
-    made = upgraded(old, new, upgrades)
+    made, count = expected_of(old, new, request)
     if request.output:
         replace_by_copy(request.output, made)
     if not request.is_quiet:
-        say(f"applied: {counted(len(upgrades.files), 'file')}")
+        say(f"applied: {counted(count, 'file')}")
     if not request.output:
         write_blocks(1, blocks_of(made))
     return Status.OK
