@@ -15,7 +15,6 @@ from aide_compare.base.ending import write_blocks
 from aide_compare.base.files import blocks_of, in_memory
 from aide_compare.base.paths import key_of_path
 from aide_compare.base.words import SEVERITIES
-from aide_compare.changes import table as tables
 from aide_compare.changes.severity import RANKS
 from aide_compare.changes.table import Table, ChangeRow
 from aide_compare.changes.weighing import directory_of, group_of_owner, user_number
@@ -37,19 +36,8 @@ def table_of(*changes: ChangeRow) -> Table:
 
 class TableTest(ModuleTest):
     def test_bounds(self) -> None:
-        """Too many rows, too many bytes, and any other failure are a Fault."""
+        """Too many bytes, and any other failure are a Fault."""
         few = [change(b"/%d" % number) for number in range(3)]
-        many = [change(b"/%d" % number, number // 2) for number in range(9)]
-        with mock.patch.object(tables, "MAX_ROWS", 2):
-            five = [change(b"/%d" % number) for number in range(5)]
-            self.fails(18, "there are more than 4 changes that are root's", table_of, *five)
-            self.expect("as many as may be", len(table_of(*five[:4])), 4)
-            table = Table()
-            self.expect("those of others", table.add([*many, change(b"/x"), change(b"/y")]), 7)
-            places = [place for place, in table.ask("select path_key from changes")]
-            self.expect("root's", places, [b"\x010", b"\x011", b"\x01x", b"\x01y"])
-            (found,) = table.ask("select sum(size) from numbers")
-            self.expect("all are counted", found, (11,))
         with mock.patch.object(rows.Rows.__init__, "__defaults__", (9 * rows.PAGE,)):
             many = [change(b"/%d" % number + b"n" * 999) for number in range(99)]
             self.fails(18, "cannot keep rows in ", table_of, *many)

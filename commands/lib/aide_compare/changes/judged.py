@@ -18,7 +18,7 @@ from aide_compare.base.words import SEVERITIES, counted, status_of_counts
 from aide_compare.changes.recorded import Dpkg, Matcher, Rpm
 from aide_compare.changes.severity import Severity
 from aide_compare.changes.table import Marks, Table, ChangeRow
-from aide_compare.changes.weighing import OTHERS, Weights, directory_of, is_of_directory
+from aide_compare.changes.weighing import Weights, directory_of, is_of_directory
 from aide_compare.compare.line_room import NO_OTHERS, Others
 from aide_compare.lines.change import Change, ChangeLine, Counts, Standing
 from aide_compare.lines.change import change_line, change_of, parsed
@@ -56,20 +56,20 @@ class Judged:
         self._kept: dict[int, ChangeLine] = {}  # The first ones, by their places.
         self._standings = bytearray()  # Of all, by their places among STANDINGS.
         self.table = Table()
-        beyond = self.table.add(self._values(reader))
+        self.table.add(self._values(reader))
         self.changes = reader.counts.changes + sum(others.values())  # How many there are.
-        self.only_counted = beyond + self._count(others)  # They are not in the table.
+        self.only_counted = self._count(others)  # They are not in the table.
 
     def _count(self, others: Others) -> int:
-        """Counts the changes of which no line was kept: as of severity high if they are not silent,
-        since nobody has weighed them. Returns how many of these there are."""
+        """Counts the changes of which no line was kept. Returns how many of these are not
+        silent."""
         open_ones = 0
         for (kind, account, left_out), count in others.items():
             if account:
                 self.silent_beyond[Standing(account).key] += count
                 self.left_out += Counter({left_out: count} if left_out else {})
             else:
-                self.table.count(kind, OTHERS, 0, count)
+                self.table.count(kind, count)
                 open_ones += count
         return open_ones
 
@@ -141,18 +141,15 @@ class Judged:
 
     def lines(self) -> Iterator[tuple[bytes, Marks]]:
         """Yields the lines of all changes in the order of paths, with their marks."""
-        nothing = 0, 0, Marks("")
         others = self.table.marks(order="place")
-        _, next_at, marks = next(others, nothing)
         self.file.seek(self.begin)
-        line_at = self.begin
-        for line, standing in zip(self.file, self._standings):
-            if line_at == next_at:
-                yield line, marks
-                _, next_at, marks = next(others, nothing)
+        for line, number in zip(self.file, self._standings):
+            standing = STANDINGS[number]
+            if standing in SILENT:
+                yield line, Marks(standing.value)
             else:
-                yield line, Marks(STANDINGS[standing].value)
-            line_at += len(line)
+                _, marks = next(others)
+                yield line, marks
 
     def line(self, place: int) -> ChangeLine:
         """The line of the change at a place of the table."""

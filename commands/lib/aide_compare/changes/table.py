@@ -2,20 +2,17 @@
 is a question to it, in the one order of ORDER, and no other module writes one."""
 from __future__ import annotations
 
-from collections import Counter
 from collections.abc import Iterable, Iterator
 from functools import lru_cache
 from typing import NamedTuple
 
-from aide_compare.base.ending import DeviceFault
 from aide_compare.base.paths import path_of
 from aide_compare.base.rows import Rows
 from aide_compare.base.words import SEVERITIES
 from aide_compare.changes.severity import RANKS
+from aide_compare.changes.weighing import OTHERS
 from aide_compare.lines.reader import embedded
 
-# Of more changes of one comparison only root's are taken, as many again.
-MAX_ROWS = 1000000
 SCHEMA = f"""
 create table changes (
     place integer primary key, path_key blob, directory blob, kind text, owners integer, rank integer,
@@ -23,13 +20,13 @@ create table changes (
     standing text default 'open', package text default '', is_listed integer default false,
     level integer as (rank / {RANKS})
 )"""
-# Changes of which nothing but the number is known.
-BEYOND = "create table beyond (kind text, owners integer, level integer, size integer)"
-# How many changes there are, by what they are now.
-NUMBERS = """
+# Changes of which nothing but the number is known: no side is root's.
+BEYOND = "create table beyond (kind text, size integer)"
+# How many changes there are, by what they are now. Nobody has weighed those beyond: they are high.
+NUMBERS = f"""
 create view numbers as
 select standing, level, owners, kind, count(*) as size from changes group by 1, 2, 3, 4
-union all select 'open', level, owners, kind, size from beyond"""
+union all select 'open', 0, {OTHERS}, kind, size from beyond"""
 # What a change is inserted with.
 ChangeRow = tuple[bytes, bytes, str, int, int, int, str, int, int]
 INSERT = """
@@ -125,32 +122,13 @@ class Table(Rows):
     def __len__(self) -> int:
         return int(next(self.ask("select coalesce(max(place), 0) from changes"))[0])
 
-    def add(self, changes: Iterable[ChangeRow]) -> int:
-        """Takes changes in the order of paths. If there are too many, only those take part that may
-        be root's; of all others it returns the number. A Fault if root's are too many."""
-        others: Counter[tuple[str, int, int]] = Counter()
+    def add(self, changes: Iterable[ChangeRow]) -> None:
+        """Takes changes in the order of paths."""
+        self.do_all(INSERT, changes)
 
-        def kept() -> Iterator[ChangeRow]:
-            size = 0
-            for values in changes:
-                if size >= MAX_ROWS:
-                    kind, owners, rank = values[2:5]
-                    if owners != 0:
-                        others[kind, owners, rank // RANKS] += 1
-                        continue
-                size += 1
-                if size > 2 * MAX_ROWS:
-                    raise DeviceFault(f"there are more than {2 * MAX_ROWS} changes that are root's")
-                yield values
-
-        self.do_all(INSERT, kept())
-        for (kind, owners, level), number in others.items():
-            self.count(kind, owners, level, number)
-        return sum(others.values())
-
-    def count(self, kind: str, owners: int, level: int, size: int) -> None:
+    def count(self, kind: str, size: int) -> None:
         """Takes the number of some changes, and nothing else."""
-        self.do("insert into beyond values (?, ?, ?, ?)", kind, owners, level, size)
+        self.do("insert into beyond values (?, ?)", kind, size)
 
     def places(self, order: str = ORDER) -> Iterator[int]:
         """Yields the places of all changes in an order, the one in which people read them if no
@@ -187,14 +165,12 @@ class Table(Rows):
         for key, kind in self.ask(question, *values):
             yield path_of(key), kind
 
-    def marks(
-        self, condition: str = "true", order: str = ORDER
-    ) -> Iterator[tuple[int, int, Marks]]:
-        """Yields the places of changes, where their lines begin, and their marks, in an order."""
-        columns = "place, line_at, standing, level, package"
+    def marks(self, condition: str = "true", order: str = ORDER) -> Iterator[tuple[int, Marks]]:
+        """Yields the places of changes and their marks, in an order."""
+        columns = "place, standing, level, package"
         question = f"select {columns} from changes where {condition} order by {order}"
-        for place, line_at, standing, level, package in self.ask(question):
-            yield place, line_at, Marks(standing, SEVERITIES[level], package)
+        for place, standing, level, package in self.ask(question):
+            yield place, Marks(standing, SEVERITIES[level], package)
 
     def record(self, packages: Iterable[tuple[str, int]]) -> None:
         """Notes that packages have the changes at some places, each the first that is named."""

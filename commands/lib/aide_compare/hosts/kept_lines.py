@@ -33,7 +33,7 @@ def kept_lines(judged: Judged, limit: int) -> Iterator[bytes]:
         table.do(KEEP, level, owners, room)
     yield os.pread(judged.file.fileno(), judged.begin, 0)
     counted: Counter[str] = Counter()
-    for place, _, _ in table.marks("is_listed", order="place"):
+    for place, _ in table.marks("is_listed", order="place"):
         change = judged.line(place)
         counted.update(change.counted)
         yield change.line

@@ -198,7 +198,7 @@ def changes_in_order(judged: Judged) -> Iterator[tuple[Fields, Marks]]:
     """The objects of all changes with their marks, those that are read first before the others."""
     table = judged.table
     marked = chain(table.marks(LISTED), table.marks(RECORDED, order=BY_PACKAGE))
-    for place, _, marks in marked:
+    for place, marks in marked:
         yield judged.line(place).fields, marks
     if judged.counts.silent:
         for line, marks in judged.lines():
