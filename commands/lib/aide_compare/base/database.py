@@ -77,4 +77,6 @@ class Layout:
     def key_of(self, entry: bytes) -> bytes | None:
         """The key of the path of an entry; None if it has no such field, or no column is known."""
         match = self._path and self._path.match(entry)
-        return key_of(match[1]) if match else None
+        if not match:
+            return None
+        return key_of(match[1])

@@ -74,7 +74,9 @@ class Directory:
             self.others |= {ANYBODY}
         is_sticky = bool(status.st_mode & stat.S_ISVTX)
         self.sticky = is_sticky and not owners and ANYBODY in self.others
-        self._passed_on = owners if is_sticky else self.others
+        self._passed_on = self.others
+        if is_sticky:
+            self._passed_on = owners
 
     def is_safe(self) -> bool:
         """Whether nobody else can put a name here in place of one of root's or the caller's."""
@@ -131,7 +133,9 @@ def walked(path: str | bytes, make: bool = False) -> tuple[Directory, int | None
     name = os.fsdecode(path)
     if "\0" in name or not name:
         raise failure(errno.ENOENT)
-    pieces = _pieces(name if name.startswith("/") else os.path.join(os.getcwd(), name))
+    if not name.startswith("/"):
+        name = os.path.join(os.getcwd(), name)
+    pieces = _pieces(name)
     directory = Directory()
     links = 0
     try:

@@ -45,7 +45,9 @@ class Option(NamedTuple):
     @property
     def usual(self) -> object:
         """Its value if nobody gives it."""
-        return self.default if self.has_value else False
+        if self.has_value:
+            return self.default
+        return False
 
     @property
     def attribute(self) -> str:

@@ -111,7 +111,9 @@ def words_of_operand(operand: Operand) -> dict[str, Any]:
 
 def end_of_options(words: Sequence[str]) -> int:
     """Where they end on a command line: after -- there are operands only."""
-    return words.index("--") if "--" in words else len(words)
+    if "--" in words:
+        return words.index("--")
+    return len(words)
 
 
 class Help(NamedTuple):
@@ -231,8 +233,9 @@ class Defaults(NamedTuple):
             if fault and not passes_faults:
                 raise fault
             if option and not fault:
-                former = values.get(option.attribute, ()) if option.is_repeated else ()
-                values[option.attribute] = [*former, *value] if option.is_repeated else value
+                if option.is_repeated:
+                    value = [*values.get(option.attribute, ()), *value]
+                values[option.attribute] = value
         return values
 
 

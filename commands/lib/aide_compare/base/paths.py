@@ -70,14 +70,17 @@ def _token(match: re.Match[bytes]) -> bytes:
     inner = match[3]
     if literal == b"":
         raise ValueError("a backslash is the last byte of a piece")
+    if literal and literal in b"*?[":
+        return b"[%s]" % literal
     if literal:
-        return b"[%s]" % literal if literal in b"*?[" else literal
+        return literal
     if inner is None:
         raise ValueError("a class has no end")
     if any(first > last for first, last in re.findall(RANGE, inner)):
         raise ValueError("a class is not understood")
-    is_negated = bool(match[2])
-    return b"[!%s]" % inner if is_negated else b"[%s]" % inner
+    if match[2]:  # It is negated.
+        return b"[!%s]" % inner
+    return b"[%s]" % inner
 
 
 def _as_fnmatch(piece: bytes) -> bytes:

@@ -188,7 +188,9 @@ def run_here(
     """Runs a program of the system as a part of this command: on its terminal, and in its group, so
     that ^C ends both. Returns its exit code; it is killed, and that is an OverTime, if it takes
     longer. It writes where this command does, unless it is silent."""
-    places = NO_DESCRIPTORS if is_silent else {1: 1, 2: 2}
+    places = NO_DESCRIPTORS
+    if not is_silent:
+        places = {1: 1, 2: 2}
     child = start_child(partial(_become_program, words, places, environment))
     return _end_of(words, child, {}, time.monotonic() + seconds)
 

@@ -80,7 +80,9 @@ def members_of(file: IO[bytes]) -> Iterator[Member]:
             tar.members = []  # type: ignore[attr-defined] # Otherwise all of them stay in memory.
             if member.size < 0 or member.issparse():  # Read without end; dpkg knows neither.
                 raise tarfile.ReadError
-            fields = seen.get(member.linkname, {}) if member.islnk() else {}
+            fields: FieldsByColumn = {}
+            if member.islnk():
+                fields = seen.get(member.linkname, {})
             if member.type in TYPES:
                 mode = TYPES[member.type] + b"%04o" % (member.mode & 0o7777)
                 fields = dict(perm=mode, uid=b"%d" % member.uid, gid=b"%d" % member.gid)
@@ -100,7 +102,9 @@ def members_of(file: IO[bytes]) -> Iterator[Member]:
 def link_count(entry: FieldsByColumn) -> int:
     """The number of links of an entry; 0 if it was not measured."""
     field = entry.get("lcount", ABSENT)
-    return int(field) if field.isdigit() else 0
+    if not field.isdigit():
+        return 0
+    return int(field)
 
 
 class Upgrades:
@@ -226,7 +230,8 @@ class Upgrades:
     def _put(self, path: bytes, fields: FieldsByColumn, is_new: bool) -> None:
         """Two packages that have a path in two forms leave it as it is."""
         key = key_of_path(path)
-        self.files[key] = fields if self.files.get(key, fields) == fields else {}
+        if self.files.setdefault(key, fields) != fields:
+            self.files[key] = {}
         if not is_new:
             self.replaced.add(key)
 

@@ -58,8 +58,9 @@ def configured(former: bytes, names: Collection[bytes]) -> bytes:
     for line in former.split(b"\n")[:-1]:
         name = line.removeprefix(b"!")
         known.add(name)
-        is_there = line.startswith(b"#") or name in names
-        lines.append(line if is_there else b"!" + name)
+        if not line.startswith(b"#") and name not in names:
+            line = b"!" + name
+        lines.append(line)
     lines += sorted(name for name in names if name not in known)
     return b"".join(line + b"\n" for line in lines)
 

@@ -32,11 +32,14 @@ class Listed(NamedTuple):
 
 def order_of(listed: Listed) -> tuple[bool, list[bytes]]:
     """The place of a path in a list."""
-    return listed.is_link, [] if listed.path == ROOT else listed.path.split(b"/")[1:]
+    if listed.path == ROOT:
+        return listed.is_link, []
+    return listed.is_link, listed.path.split(b"/")[1:]
 
 
 class Sides:
-    """Which of some paths the databases have, and what only the old one has in their directories."""
+    """Which of some paths the databases have, and what only the old one has in the directories of
+    these."""
 
     def __init__(self, paths: Collection[bytes], old: Copy, new: Copy) -> None:
         self.old: set[bytes] = set()
@@ -49,9 +52,10 @@ class Sides:
         for key, group in groupby(entries, key_of_entry):
             path = path_of(key)
             lines = {entry.side: entry.line for entry in group}
-            if path in paths:
-                self.old.update([path] if OLD_SIDE in lines else [])
-                self.new.update([path] if NEW_SIDE in lines else [])
+            if path in paths and OLD_SIDE in lines:
+                self.old.add(path)
+            if path in paths and NEW_SIDE in lines:
+                self.new.add(path)
             if NEW_SIDE not in lines and os.path.dirname(path) in directories:
                 mode = former.fields(lines[OLD_SIDE]).get("perm", b"")
                 self.gone.append(Listed(mode[:-4] == LINK, path))

@@ -61,7 +61,9 @@ def gains_set_id(old: Side, new: Side) -> bool:
     """Whether a set-ID bit may be there now that may not have been there before."""
     if new is None:
         return False
-    before = 0 if old is None else set_id_bits(old, old.least)
+    before = 0
+    if old is not None:
+        before = set_id_bits(old, old.least)
     return set_id_bits(new, new.most) & ~before != 0
 
 

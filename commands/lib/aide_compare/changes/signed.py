@@ -132,7 +132,9 @@ def packages_of(release: Release, keys: int) -> Iterator[Signed]:
     with its name before theirs, as apt keeps them."""
     before = release.path[: -len(RELEASE)]
     for digest, size, name, ending in INDEX.findall(signed_text(release, keys)):
-        path = before + (name if release.indexes is None else name.replace("/", "_")) + ending
+        if release.indexes is not None:
+            name = name.replace("/", "_")
+        path = before + name + ending
         if has_index(release, path):
             with closed_after(copy_signed(path, int(size), digest)) as copy:
                 index = UNPACK[ending](read_whole(copy, MAX_INDEX, shown(path)))

@@ -15,8 +15,8 @@ from aide_compare.lines.reader import embedded
 
 SCHEMA = f"""
 create table changes (
-    place integer primary key, path_key blob, directory blob, kind text, owners integer, rank integer,
-    user blob, recordable text, line_at integer, line_size integer,
+    place integer primary key, path_key blob, directory blob, kind text, owners integer,
+    rank integer, user blob, recordable text, line_at integer, line_size integer,
     standing text default 'open', package text default '', is_listed integer default false,
     level integer as (rank / {RANKS})
 )"""

@@ -131,7 +131,10 @@ def accept_opened(request: AcceptRequest, opened: Opened, baseline: Baseline) ->
         refuse_unsound(new)
     accepted = Accepted(new, former, next_baseline.sha256, merged)
     if accepted.is_replaced:
-        baseline.replace(packed(next_baseline) if opened.is_packed else next_baseline.fd)
+        source = next_baseline.fd
+        if opened.is_packed:
+            source = packed(next_baseline)
+        baseline.replace(source)
     return accepted
 
 
@@ -213,7 +216,9 @@ def lines_of(request: AcceptRequest, accepted: Accepted) -> Iterator[str]:
     """The lines that say what was done."""
     yield title_line(request, accepted)
     written = accepted.new.written
-    date = "at an unknown time" if written is None else date_of(written)
+    date = "at an unknown time"
+    if written is not None:
+        date = date_of(written)
     yield f"new: SHA-256 {accepted.new.sha256}, {request.came} {date}"
     if accepted.merged:
         kinds = words_of_kinds(accepted.merged.counts[kind] for kind in KINDS)

@@ -106,7 +106,9 @@ class Printer:
 
             return [brief_of(judged)]
         blocks = blocks_of(report_of(comparison))
-        return blocks if self.form == REPORT else map(clean, blocks)
+        if self.form == REPORT:
+            return blocks
+        return map(clean, blocks)
 
     def _unjudged(self, comparison: Comparison, _judged: Judged | None) -> Iterable[bytes]:
         """The first paths of the changes, if something has failed before any was printed."""

@@ -82,7 +82,9 @@ class CompareRequest(Request):
     def paths(self) -> list[str]:
         """Those of all outputs, the state file among them."""
         paths = [path for _, path in self.outputs]
-        return [*paths, self.state] if self.state else paths
+        if self.state:
+            paths.append(self.state)
+        return paths
 
     @property
     def places(self) -> list[int | str]:
@@ -154,7 +156,9 @@ def work_request(request: CompareRequest, defaults: Defaults) -> ComparisonInput
     places = request.places
     for place in places:
         if places.count(place) > 1:
-            name = "standard output" if place == STDOUT else f"{place}"
+            name = str(place)
+            if place == STDOUT:
+                name = "standard output"
             raise Fault(Status.USAGE, f"two outputs have one place: {shown(name, 200)}")
     old, new = request.databases
     others = (*request.trusted, *request.exclude_from, request.configuration or old)

@@ -125,8 +125,9 @@ def run_hosts(arguments: Sequence[str]) -> int:
         return print_usage(HOSTS_USAGE)
     word = arguments[0]
     if word not in HOSTS:
-        near = nearest(word, HOSTS)
-        advice = f"did you mean: {near}" if near else "try: aide-compare hosts --help"
+        advice = "try: aide-compare hosts --help"
+        if near := nearest(word, HOSTS):
+            advice = f"did you mean: {near}"
         raise Fault(Status.USAGE, f"there is no aide-compare hosts {shown(word, 100)}", advice)
     called(f"aide-compare hosts {word}")
     check_proof(f"hosts {word}", arguments)
@@ -139,8 +140,9 @@ def print_help(words: Sequence[str]) -> int:
         return print_usage(USAGE)
     if words[0] not in WORDS:
         text = f"there is no aide-compare {shown(words[0], 100)}"
-        near = nearest(words[0], WORDS)
-        advice = f"did you mean: {near}" if near else f"there are: {', '.join(WORDS)}"
+        advice = f"there are: {', '.join(WORDS)}"
+        if near := nearest(words[0], WORDS):
+            advice = f"did you mean: {near}"
         raise Fault(Status.USAGE, text, advice)
     if words[0] == "hosts":
         return main([*words[:2], "--help"])

@@ -23,8 +23,8 @@ HELP = Help(
     name="aide-compare hosts compare",
     usage="%(prog)s [OPTIONS] [HOSTS-FILE | HOST]",
     description="""\
-Fetches and compares the databases of the hosts of HOSTS-FILE, one name a line, or of HOST. Prints a line for
-each host as it ends: its name, its status and the counts. Then a summary.""",
+Fetches and compares the databases of the hosts of HOSTS-FILE, one name a line, or of HOST. Prints a
+line for each host as it ends: its name, its status and the counts. Then a summary.""",
     epilog="""\
 Status, the highest of all hosts: 0 nothing to read, 1 to 7 changes that are not
 silent, above 7 some host was not compared. 15 if arguments or a host's name are wrong, 17 if the

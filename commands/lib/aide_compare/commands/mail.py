@@ -270,7 +270,9 @@ def compared(job: MailJob) -> Compared:
         row = JobOutput(mail.extend, partial(message_of, job, before), of_failure=True)
         ended = ComparisonJob(job.request, work, JobOutputs(after=[row])).carry_out()
         state = ended.state()
-        news = subject_of(state) if state.status else "no difference"
+        news = "no difference"
+        if state.status:
+            news = subject_of(state)
         return Compared(state, news, b"".join(mail), notes_of(job, ended))
     except Exception as error:
         keep_failure(job.request.state, error)
@@ -322,7 +324,9 @@ def failure_text(unit: str) -> str:
     if result == "success":  # That of the last time: this time it did not begin.
         how = "did not begin: AIDE, for which it waits, has not ended or has failed"
         return f"{unit} {how}. Its lines: journalctl -u {shlex.quote(unit)}"
-    how = f": {result}, status {os.environ.get('MONITOR_EXIT_STATUS', 'unknown')}" if result else ""
+    how = ""
+    if result:
+        how = f": {result}, status {os.environ.get('MONITOR_EXIT_STATUS', 'unknown')}"
     return f"{unit} failed{how}. Its lines: journalctl -u {shlex.quote(unit)}"
 
 

@@ -27,7 +27,9 @@ def text_there(path: str) -> str:
     """The text of a file; nothing if it cannot be read. Its last line has an end."""
     with suppress(Fault, OSError):
         text = os.fsdecode(read_file(path, MAX_OPTIONS_BYTES))
-        return text if text.endswith("\n") else f"{text}\n"
+        if text.endswith("\n"):
+            return text
+        return f"{text}\n"
     return ""
 
 

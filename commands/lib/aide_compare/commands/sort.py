@@ -114,7 +114,9 @@ def sort(request: SortRequest) -> int:
     """Writes the database in path order, and says what was out of order. Returns the status."""
     refuse_terminal()
     rows = Rows(SCHEMA, 4 * request.max_size + BLOCK)
-    path = "/dev/stdin" if request.path == "-" else request.path
+    path = request.path
+    if path == "-":
+        path = "/dev/stdin"
     copy = copy_database("given", path, request.max_size)
     rows.do_all("insert into lines values (?, ?, ?)", lines_of(copy))
     write_blocks(1, (line for (line,) in rows.ask(IN_ORDER)))
@@ -123,7 +125,9 @@ def sort(request: SortRequest) -> int:
         say(f"out of order: {breaks} of {count} lines")
         if breaks:
             say(ADVICE)
-    return Status.DATABASE if say_repeated(rows) else Status.OK
+    if say_repeated(rows):
+        return Status.DATABASE
+    return Status.OK
 
 
 def main(arguments: Sequence[str]) -> int:

@@ -151,7 +151,9 @@ def mail_lines(request: StatusRequest, defaults: OptionValues) -> list[str]:
 
     queue = os.path.join(os.path.dirname(request.state), "mail")
     found = list(troubles(queue))
-    return ["", *(f"Mails: {line}" for line in found)] if found else []
+    if not found:
+        return []
+    return ["", *(f"Mails: {line}" for line in found)]
 
 
 def write_text(request: StatusRequest, defaults: OptionValues) -> int:
@@ -198,7 +200,9 @@ def metric_lines(name: str, help: str, value: int | None) -> str:
 def metrics_of(state: State) -> str:
     """The text that the node exporter reads."""
     values = (state.told_status, state.added, state.removed, state.changed, state.time)
-    counts = state.standings.numbers() if state.standings else {}
+    counts = {}
+    if state.standings:
+        counts = state.standings.numbers()
     rows = [(name, text, value) for (name, text), value in zip(ENTRIES.items(), values)]
     rows += [(f"{word}_changes", text, counts.get(word)) for word, text in CHANGES.items()]
     lines = [metric_lines(*row) for row in rows]

@@ -1,5 +1,5 @@
-"""The baseline in its directory, locked against other runs, and how another file takes its place: no
-former one is lost."""
+"""The baseline in its directory, locked against other runs, and how another file takes its place,
+so that no former one is lost."""
 from __future__ import annotations
 
 import errno

@@ -128,7 +128,9 @@ def plain_start(path: bytes) -> bytes:
 def start_of_entry(path: bytes) -> bytes:
     """The same, with the blank behind a path that has no escapes: not all that begins so."""
     start = plain_start(path)
-    return start + b" " if start == path else start
+    if start == path:
+        start += b" "
+    return start
 
 
 def links_of(path: str) -> Iterator[tuple[str, str]]:

@@ -57,7 +57,10 @@ def _database_hints(side: str, number: int, words: bytes, copy: Copy) -> Iterato
     name = f"the {side} is {shown(copy.name)}"
     line = _start_of_line(copy.fd, number)
     if words == b"no @@begin_db" and copy.size:
-        name += "; " + (OTHER_ENDS if line == b"@@begin_db\r" else UNKNOWN_BEGINNING)
+        cause = UNKNOWN_BEGINNING
+        if line == b"@@begin_db\r":
+            cause = OTHER_ENDS
+        name += f"; {cause}"
     yield name
     if not copy.size:
         yield "it is empty: does AIDE run now? It fills its new database at its end"

@@ -1,5 +1,5 @@
-"""The results of the last nights: a file beside the state file, with a line for each that is a state
-without names."""
+"""The results of the last nights: a file beside the state file, with a line for each, which is a
+state without names."""
 from __future__ import annotations
 
 import os
@@ -21,8 +21,10 @@ SAME_NIGHT = 12 * 3600
 def history_path(state_path: str) -> str:
     """As in DIRECTORY/history.jsonl for DIRECTORY/state, and NAME.history.jsonl for all others."""
     directory, name = os.path.split(state_path)
-    begin = "" if name == "state" else f"{name}."
-    return os.path.join(directory, f"{begin}history.jsonl")
+    history = "history.jsonl"
+    if name != "state":
+        history = f"{name}.{history}"
+    return os.path.join(directory, history)
 
 
 def nights_of(state_path: str) -> list[State]:

@@ -68,7 +68,9 @@ class State(NamedTuple):
         """How many seconds ago the run ended; None if it ended minutes after now, so that one of
         the clocks is wrong."""
         age = int(time.time()) - self.time
-        return None if age < -AHEAD else max(age, 0)
+        if age < -AHEAD:
+            return None
+        return max(age, 0)
 
     def is_older(self, limit: int) -> bool:
         """Whether the run is known to have ended more seconds ago; 0 is no limit."""
@@ -96,7 +98,9 @@ class State(NamedTuple):
             return "a status or a time that no run has"
         if self.counts is None:
             known = (self.added, self.removed, self.changed) != (None, None, None)
-            return "counts that are missing" if self.status <= 7 or known else ""
+            if self.status <= 7 or known:
+                return "counts that are missing"
+            return ""
         if min(self.counts) < 0 or status_of_counts(self.counts) != self.status:
             return "counts that are not those of the status"
         if self.standings and not self.standings.fits(sum(self.counts)):

@@ -37,7 +37,9 @@ class Opened:
         self.fd = descriptor
         self.words = f"the {words_of_side(side)} database {shown(path)}"
         # When its file was last modified; None for a pipe.
-        self.written = status.st_mtime if stat.S_ISREG(status.st_mode) else None
+        self.written: float | None = None
+        if stat.S_ISREG(status.st_mode):
+            self.written = status.st_mtime
         self.is_packed = False  # Whether its bytes were seen to be packed.
 
     def too_large(self, limit: int) -> Fault:

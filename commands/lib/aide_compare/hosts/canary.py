@@ -153,7 +153,9 @@ def words_on(state: State, listed: Set[tuple[str, str]]) -> str:
     before."""
     place, file = os.path.split(state.trusted_new)
     name = os.path.basename(place)
-    accepted = ", which was accepted" if file == BASELINE else ""
+    accepted = ""
+    if file == BASELINE:
+        accepted = ", which was accepted"
     if accepted or (name, state.trusted_new_sha256) in listed:
         what = "changes that it went through too are silent on the other hosts"
         return f"canary {name}{accepted}: {what}"

@@ -55,7 +55,8 @@ GATHER = """
 with
     loads as (select host, count(*) as load from found group by host),
     ranked as (
-        select same, path_key, directory, kind, owners, rank, host, count(*) over (partition by same) as hosts,
+        select same, path_key, directory, kind, owners, rank, host,
+            count(*) over (partition by same) as hosts,
             row_number() over (partition by same order by load, found.rowid) as turn
         from found join loads using (host)
     )

@@ -75,7 +75,9 @@ def read_changes(
                 take(change)
                 listed += 1
         if host.state and host.counts and is_of_run(lines.end, host.state, host.counts):
-            report = CUT if listed < host.counts.to_read else WHOLE
+            report = WHOLE
+            if listed < host.counts.to_read:
+                report = CUT
     except (Refused, RecursionError, OSError, *ODD):
         pass
     return host._replace(report=report, listed=listed)

@@ -124,7 +124,9 @@ def short_names(shared: SharedChange) -> str:
 
 
 def more_hosts(count: int) -> str:
-    return f" +{count}" if count else ""
+    if not count:
+        return ""
+    return f" +{count}"
 
 
 def grouped_lines(report: Report, places: Iterable[int]) -> Iterator[str]:
@@ -153,7 +155,9 @@ def list_lines(title: str, lines: Sequence[str], rows: int = 0) -> Iterator[str]
     if 0 < rows < len(lines):
         first = lines[: rows - 1]
     for line in map(guarded, first):
-        yield "  " + (shortened(line, MAX_COLUMNS - 2) if rows else line)
+        if rows:
+            line = shortened(line, MAX_COLUMNS - len("  "))
+        yield f"  {line}"
     if len(lines) > len(first):
         yield f"  and {len(lines) - len(first)} more"
 

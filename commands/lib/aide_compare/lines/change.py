@@ -52,7 +52,8 @@ LEFT_OUT = "left_out"  # The member of a proved line with the number of the list
 # whatever happened on its machine.
 WATCHERS = (
     rb"(?s)/etc/aide-compare(?:/.*)?|/etc/aide(?:/.*)?|/etc/aide\.conf|/etc/default/aide"
-    rb"|/etc/cron\.(?:daily/zz-aide-compare|d/aide-compare-fleet)|/usr/(?:.*/)?share/aide-compare/.*"
+    rb"|/etc/cron\.(?:daily/zz-aide-compare|d/aide-compare-fleet)"
+    rb"|/usr/(?:.*/)?share/aide-compare/.*"
     rb"|/(?:etc|run|lib|usr/lib|usr/local/lib)/systemd/(?:.*/)?"
     rb"(?:aide-|dailyaidecheck\.|service\.d/|timer\.d/).*"
 )

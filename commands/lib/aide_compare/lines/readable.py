@@ -86,9 +86,10 @@ def _cut(text: str) -> str:
 
 def _acl_entries(text: bytes) -> list[str]:
     """The entries of a list, each with what the mask leaves of it."""
-    lines = text.rstrip(b"\n").split(b"\n", MAX_ACL_ENTRIES) if text else []
-    entries = []
-    for line in lines:
+    entries: list[str] = []
+    if not text:
+        return entries
+    for line in text.rstrip(b"\n").split(b"\n", MAX_ACL_ENTRIES):
         match = re.fullmatch(ACL_ENTRY, line)
         if match is None:
             raise ValueError

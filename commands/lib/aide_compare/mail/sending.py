@@ -68,7 +68,9 @@ def by_sendmail(path: str, seconds: int, message: bytes) -> None:
     if code is not None:
         how = f"status {code if code > 0 else 128 - code} of sendmail"
     lines = [line for line in said.split(b"\n") if line.strip()]
-    why = shown(lines[-1], 300) if lines else "it gave no reason"
+    why = "it gave no reason"
+    if lines:
+        why = shown(lines[-1], 300)
     raise DeviceFault(f"{how}: {why}")
 
 

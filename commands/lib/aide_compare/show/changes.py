@@ -31,8 +31,10 @@ def _shown(label: str, value: Value, text: str | None) -> str | None:
     """A value for people; None if there is none."""
     if text is not None:
         return guarded(text)
+    if isinstance(value, int) and FORMS[label] == "time":
+        return date_of(value)
     if isinstance(value, int):
-        return date_of(value) if FORMS[label] == "time" else str(value)
+        return str(value)
     if value is None:
         return None
     return shown(value)

@@ -32,7 +32,9 @@ def group(comparison: Comparison, judged: Judged) -> Iterator[str]:
     and each change stays open."""
     try:
         judged.named = named_packages(judged.table, TRUSTED_SIDES[1] in comparison.copies)
-        records = records_of_host() if len(judged.table) else None
+        if not len(judged.table):
+            return
+        records = records_of_host()
         if records:
             judged.group_by(records)
     except Exception as error:

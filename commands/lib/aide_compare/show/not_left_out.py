@@ -79,7 +79,9 @@ def _reason_of_sides(old: Rights | None, new: Rights | None, names_programs: boo
 def _reason_of_path(path: bytes) -> str:
     if path == SETTINGS or path.startswith(SETTINGS + b"/"):
         return "it decides on reports"
-    return "its path is too long" if len(path) > LONGEST_PATH else ""
+    if len(path) > LONGEST_PATH:
+        return "its path is too long"
+    return ""
 
 
 def _reason_of_directory(old: Rights | None, new: Rights | None) -> str:

@@ -26,7 +26,9 @@ def _notes_of(comparison: Comparison, verbose: bool) -> list[str]:
 def _faults_of(comparison: Comparison) -> list[str]:
     """Why nothing was compared, the cause first."""
     fault = comparison.fault
-    return [fault.text, *fault.more] if fault else []
+    if fault is None:
+        return []
+    return [fault.text, *fault.more]
 
 
 def _errors_of(comparison: Comparison) -> list[str]:

@@ -87,7 +87,9 @@ def whole_page(
 ) -> Iterator[bytes]:
     """Yields a page. `digest` is what is seen without the script; the heading is made when all rows
     were. What is not proved says so above all else."""
-    notice = f'<p class="notice">{NOTICE}</p>\n' if is_for_looking() else ""
+    notice = ""
+    if is_for_looking():
+        notice = f'<p class="notice">{NOTICE}</p>\n'
     style = part_of("page.css")
     script = script_of()
     policy = POLICY.format(style=digest_of(style), script=digest_of(script))
@@ -115,8 +117,10 @@ def size_beside(title: str, digest: str, heading: Callable[[], Fields]) -> int:
 
 def shown_value(value: Value) -> int | str:
     """A value as it is, for people."""
+    if isinstance(value, int) and abs(value) < MAX_NUMBER:
+        return value
     if isinstance(value, int):
-        return value if abs(value) < MAX_NUMBER else str(value)
+        return str(value)
     if value is None:
         return "none"
     return shown(value, MAX_VALUE)

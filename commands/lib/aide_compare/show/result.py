@@ -70,6 +70,8 @@ def table_of(nights: Iterable[State]) -> Iterator[str]:
         if night.status > 7:
             yield guarded(f"{begin}  {night.error}")
             continue
-        numbers = night.standings.numbers() if night.standings else {}
+        numbers = {}
+        if night.standings:
+            numbers = night.standings.numbers()
         counts = [str(numbers.get(name, "?")) for name in COLUMNS]
         yield "  ".join([begin, *(f"{count:>{len(name)}}" for count, name in zip(counts, names))])

@@ -40,9 +40,9 @@ def first_paths(comparison: Comparison, limit: int) -> list[str]:
 
 def unjudged_lines(comparison: Comparison, height: int = HEIGHT) -> list[str]:
     """At most so many lines; none if the program has found no change."""
-    end = comparison.lines.end if comparison.lines else None
-    if end is None or not end.changes:
+    if not (comparison.lines and comparison.lines.end.changes):
         return []
+    end = comparison.lines.end
     numbers = ", ".join(f"{count} {kind}" for count, kind in zip(end.kinds, KINDS))
     title = f"The databases differ: {numbers}."
     title += " The severity is not known, because the changes could not be judged."
