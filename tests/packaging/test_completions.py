@@ -1,16 +1,13 @@
-"""Completions: every shell reads them, and has each subcommand with the options of its help."""
+"""Completions: bash reads them, and has each subcommand with the options of its help."""
 from __future__ import annotations
 
-import os
 import re
 
 from tests.commands.units.calls import helped
 from tests.lib.program_test import slow
-from tests.packaging.installation import InstallTest, texts, tree
+from tests.packaging.installation import InstallTest
 
 BASH = "share/bash-completion/completions/aide-compare"
-ZSH = "share/zsh/site-functions/_aide-compare"
-FISH = "share/fish/vendor_completions.d/aide-compare.fish"
 SUBCOMMANDS = "compare show json page mail accept archive status sort setup version".split()
 HOSTS = ["hosts " + word for word in ("add", "list", "remove", "compare", "accept", "report")]
 
@@ -43,24 +40,6 @@ function=${function#*-F }
 printf '%s\n' "${COMPREPLY[@]}"
 """
 
-# zsh completes at a terminal only, so it gets one; the answer is what the line has become.
-ASK_ZSH = r"""
-zmodload zsh/zpty || exit 9
-zpty answering 'TERM=dumb zsh -f -i'
-ask() {
-    zpty -w answering "$1"
-    zpty -r answering answer "*$2*" || exit 8
-}
-ask "PS1=; fpath=($1 \$fpath); autoload -U compinit; compinit -D -u
-unsetopt zle_bracketed_paste; print rea''dy" ready
-zpty -w -n answering "$2"$'\t'
-zpty -w -n answering $'\C-a#\n'
-zpty -w answering "print do''ne"
-zpty -r answering answer '*done*' || exit 8
-zpty -d answering
-print -r -- "$answer"
-"""
-
 
 def options(words: str) -> list[str]:
     """The options that the help of a subcommand has."""
@@ -90,25 +69,6 @@ def ask_bash(trial: InstallTest, *words: str) -> list[str]:
 
 @slow
 class CompletionsTest(InstallTest):
-    def test_files(self) -> None:
-        """zsh and fish have all options; zsh's first line names the commands."""
-        found = texts(tree(self.first()))
-        zsh, fish = found[ZSH], found[FISH]
-        named = zsh.split("\n")[0].split()
-        self.assertEqual(named, ["#compdef", "aide-compare", "check_aide_compare"])
-        for words in SUBCOMMANDS + HOSTS:
-            wanted = options(words)
-            case = re.search(r"^    '%s'\)\n(.*?);;$" % words, zsh, re.M | re.S)
-            self.assertTrue(case, "zsh knows " + words)
-            for option in wanted:
-                form = "-l %s " % option[2:] if option.startswith("--") else "-s %s " % option[1:]
-                line = "complete -c aide-compare -n '__fish_aide_compare_is %s' %s" % (words, form)
-                self.assertIn(line, fish, "%s %s in fish" % (words, option))
-                self.assertTrue(
-                    case and re.search(r"'\*%s[=+[]" % option, case.group(1)),
-                    "%s %s in zsh" % (words, option),
-                )
-
     def test_bash(self) -> None:
         self.needs("bash")
         for words in SUBCOMMANDS + HOSTS:
@@ -119,44 +79,3 @@ class CompletionsTest(InstallTest):
         for line, wanted in COMPLETED.items():
             offered = ask_bash(self, "aide-compare", *line.split(" "))
             self.assertEqual(sorted(offered), sorted(wanted), f"bash completes {line}")
-
-    def test_zsh(self) -> None:
-        self.needs("zsh")
-        folder = self.first(os.path.dirname(ZSH))
-        for line, wanted in (
-            ("aide-compare hosts rep", "aide-compare hosts report"),
-            ("aide-compare --exclude-f", "aide-compare --exclude-from"),
-            ("aide-compare --exclude-from=VERS", "--exclude-from=VERSION"),
-            ("aide-compare mail --max-s", "aide-compare mail --max-size"),
-            ("aide-compare mail --aft", "aide-compare mail --after="),
-            ("aide-compare sort --h", "aide-compare sort --help"),
-            ("aide-compare sort VERS", "aide-compare sort VERSION"),
-            ("aide-compare hosts report --format=js", "aide-compare hosts report --format=json"),
-        ):
-            words = ["zsh", "-f", "-c", ASK_ZSH, "zsh", folder, line]
-            done = self.run_words(words, cwd=self.source)
-            self.assertEqual(done.status, 0, ("zsh completes " + line, done))
-            self.assertIn(wanted, done.output_text.replace("\r", ""), "zsh completes " + line)
-
-    def test_fish(self) -> None:
-        self.needs("fish")
-        os.makedirs(self.path("home"))
-        places = {"HOME": self.path("home"), "XDG_DATA_DIRS": self.first("share")}
-        surroundings = {**os.environ, **places, "PATH": f"{self.first('bin')}:{os.environ['PATH']}"}
-
-        def offered(line: str) -> list[str]:
-            words = ["fish", "-c", f"complete -C '{line}'"]
-            done = self.run_words(words, cwd=self.source, env=surroundings)
-            self.assertEqual(done.status, 0, ("fish completes " + line, done))
-            return [one.split("\t")[0] for one in done.output_text.splitlines()]
-
-        for line, wanted in (
-            ("aide-compare sort --h", ["--help"]),
-            ("aide-compare sort VERS", ["VERSION"]),
-            ("aide-compare --exclude-f", ["--exclude-from"]),
-            ("aide-compare mail --max-s", ["--max-size"]),
-            ("aide-compare mail --aft", ["--after"]),
-            ("aide-compare hosts report --format js", ["json"]),
-            ("aide-compare hosts rep", ["report"]),
-        ):
-            self.assertEqual(offered(line), wanted, "fish completes " + line)

@@ -31,8 +31,6 @@ MADE = {
     **{f"share/man/man1/{name}.1": 0o644 for name in PAGES},
     **{path + ".build": 0o644 for path in PROGRAMS + NEWER},
     "share/bash-completion/completions/aide-compare": 0o644,
-    "share/zsh/site-functions/_aide-compare": 0o644,
-    "share/fish/vendor_completions.d/aide-compare.fish": 0o644,
 }
 FOR_USERS = ("GUIDE.md", "HOSTS.md", "LIMITS.md", "PROVED.md")
 

@@ -74,7 +74,6 @@ def try_tarball(trial: InstallTest, path: str) -> None:
 def name_in_package(name: str) -> str:
     """Where the Debian package has what packaging/install installs below /usr."""
     name = re.sub(r"^(usr/share/man/.*)$", r"\1.gz", name)
-    name = name.replace("zsh/site-functions", "zsh/vendor-completions")
     return name.replace("aide-compare/CHANGELOG.md", "aide-compare/changelog.gz")
 
 
