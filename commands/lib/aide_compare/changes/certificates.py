@@ -17,6 +17,7 @@ from typing import NamedTuple
 
 from aide_compare.base.files import TEMPORARY, private_directory
 from aide_compare.base.processes import PLAIN_ENVIRONMENT, OverTime, run
+from aide_compare.changes.contents import NotMade
 
 DIRECTORY = b"/usr/share/ca-certificates/"
 LOCAL = b"/usr/local/share/ca-certificates/"
@@ -36,10 +37,6 @@ ENVIRONMENT = MappingProxyType(
         "OPENSSL_MODULES": "/nonexistent",
     }
 )
-
-
-class NotLinked(Exception):
-    """The links cannot be made, and why."""
 
 
 class Certificates(NamedTuple):
@@ -93,10 +90,10 @@ def hashed(texts: Mapping[bytes, bytes]) -> dict[bytes, bytes]:
                 [b"openssl", b"rehash", directory], {}, environment=ENVIRONMENT, deadline=deadline
             )
         except OverTime as fault:
-            raise NotLinked("openssl took too long") from fault
+            raise NotMade("openssl took too long") from fault
         names = [name for name in os.listdir(directory) if HASHED(name)]
         if status not in (0, 1):
-            raise NotLinked(f"openssl ended with {status}")
+            raise NotMade(f"openssl ended with {status}")
         return {name: os.readlink(os.path.join(directory, name)) for name in names}
 
 

@@ -18,7 +18,7 @@ from typing import NamedTuple
 
 from aide_compare.base.files import TEMPORARY, private_directory, private_file
 from aide_compare.base.processes import PLAIN_ENVIRONMENT, OverTime, Taker, run
-from aide_compare.changes.contents import Contents
+from aide_compare.changes.contents import Contents, NotMade
 
 MAX_CODE = 64 << 20
 SECONDS = 300
@@ -66,10 +66,6 @@ for _ in range(number(4)):
     finally:
         posix._exit(1)
 """
-
-
-class NotCompiled(Exception):
-    """Nothing could be compiled, and why."""
 
 
 class Source(NamedTuple):
@@ -141,7 +137,7 @@ class Codes:
         while len(self.pending) >= 4:
             size = int.from_bytes(self.pending[:4], "little")
             if size > MAX_CODE:
-                raise NotCompiled("its interpreter makes too much of a source")
+                raise NotMade("its interpreter makes too much of a source")
             if len(self.pending) < 4 + size:
                 return
             self.take_code(bytes(self.pending[4 : 4 + size]))
@@ -160,8 +156,8 @@ def compile_all(
     files: Mapping[bytes, bytes], count: int, sources: Iterable[Source], take: Taker
 ) -> None:
     """Gives the code of so many sources to a taker, in their order: none of a source that is
-    refused. The files are those of the interpreter. Raises NotCompiled if it cannot be run, or
-    takes too long."""
+    refused. The files are those of the interpreter. Raises NotMade if it cannot be run, or takes
+    too long."""
     with ExitStack() as opened:
         request = opened.enter_context(private_file())
         request.write(count.to_bytes(4, "little"))
@@ -177,6 +173,6 @@ def compile_all(
         try:
             status = run(words, takers, {0: request.fileno()}, PLAIN_ENVIRONMENT, deadline)
         except OverTime as fault:
-            raise NotCompiled("its interpreter took too long") from fault
+            raise NotMade("its interpreter took too long") from fault
     if status != 0 or codes.count != count:
-        raise NotCompiled(f"its interpreter ended with {status}")
+        raise NotMade(f"its interpreter ended with {status}")

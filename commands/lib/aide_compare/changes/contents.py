@@ -14,6 +14,10 @@ NEEDED = re.compile(
 ).fullmatch
 
 
+class NotMade(Exception):
+    """What a script of a package makes of files cannot be made here, and why."""
+
+
 class Place(NamedTuple):
     """Where a file is kept, its size, and when it was written."""
 

@@ -9,12 +9,10 @@ from __future__ import annotations
 import io
 import os
 from collections.abc import Callable, Collection, Iterable
-from heapq import merge
-from itertools import groupby
 from typing import IO, NamedTuple
 
 from aide_compare.changes.compiled import CACHED
-from aide_compare.compare.kept_open import NEW_SIDE, OLD_SIDE, EntryReader, key_of_entry
+from aide_compare.compare.kept_open import NEW_SIDE, OLD_SIDE, EntryReader, side_by_side
 from aide_compare.base.paths import path_of
 from aide_compare.compare.unpack import Copy
 
@@ -38,24 +36,19 @@ def order_of(listed: Listed) -> tuple[bool, list[bytes]]:
 
 
 class Sides:
-    """Which of some paths the databases have, and what only the old one has in the directories of
-    these."""
+    """Which of some paths only the new database has, and what only the old one has in the
+    directories of these."""
 
     def __init__(self, paths: Collection[bytes], old: Copy, new: Copy) -> None:
-        self.old: set[bytes] = set()
-        self.new: set[bytes] = set()
+        self.came: set[bytes] = set()
         self.gone: list[Listed] = []
         directories = {os.path.dirname(path) for path in paths}
         directories |= {os.path.join(directory, CACHE) for directory in directories}
         former, latter = EntryReader(old), EntryReader(new)
-        entries = merge(former.entries(OLD_SIDE), latter.entries(NEW_SIDE))
-        for key, group in groupby(entries, key_of_entry):
+        for key, lines in side_by_side(former, latter):
             path = path_of(key)
-            lines = {entry.side: entry.line for entry in group}
-            if path in paths and OLD_SIDE in lines:
-                self.old.add(path)
-            if path in paths and NEW_SIDE in lines:
-                self.new.add(path)
+            if path in paths and OLD_SIDE not in lines:
+                self.came.add(path)
             if NEW_SIDE not in lines and os.path.dirname(path) in directories:
                 mode = former.fields(lines[OLD_SIDE]).get("perm", b"")
                 self.gone.append(Listed(mode[:-4] == LINK, path))
@@ -72,14 +65,10 @@ def former_list(
         for each in sides.gone
         if each.path not in known and os.path.dirname(each.path) in directories
     ]
-    kept = [each for each in listed if is_kept(moved(each.path), sides)]
+    # AIDE saw what else there is in the former version too, or does not look there at all.
+    kept = [each for each in listed if moved(each.path) not in sides.came]
     former = sorted([*kept, *gone], key=order_of)
     return gone, io.BytesIO(b"".join(path + b"\n" for _, path in former))
-
-
-def is_kept(path: bytes, sides: Sides) -> bool:
-    """Whether a former version had a path too: AIDE saw it then, or does not look there at all."""
-    return path in sides.old or path not in sides.new
 
 
 def compiled_of(sources: Collection[bytes], sides: Sides) -> Iterable[bytes]:

@@ -62,6 +62,15 @@ class EntryReader:
                 yield SidedEntry(key, side, line)
 
 
+def side_by_side(
+    former: EntryReader, latter: EntryReader
+) -> Iterator[tuple[bytes, dict[int, bytes]]]:
+    """Yields each key of two databases with the lines of both sides, as far as they have it."""
+    entries = merge(former.entries(OLD_SIDE), latter.entries(NEW_SIDE))
+    for key, group in groupby(entries, key_of_entry):
+        yield key, {entry.side: entry.line for entry in group}
+
+
 class Merged(NamedTuple):
     """A database that was merged, how many of the added, removed and changed paths stay open in it,
     and the patterns that keep none of them open."""
@@ -90,9 +99,7 @@ def keep_open(old: Copy, new: Copy, patterns: Sequence[Pattern]) -> Merged:
         with open(os.dup(target), "wb", BLOCK) as file:
             former = EntryReader(old)
             latter = EntryReader(new, file.write)
-            entries = merge(former.entries(OLD_SIDE), latter.entries(NEW_SIDE))
-            for key, group in groupby(entries, key_of_entry):
-                lines = {entry.side: entry.line for entry in group}
+            for key, lines in side_by_side(former, latter):
                 side = NEW_SIDE
                 if lines.get(OLD_SIDE) != lines.get(NEW_SIDE):
                     pieces = path_of(key)[1:].split(b"/")

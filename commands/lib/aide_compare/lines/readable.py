@@ -11,7 +11,6 @@ import re
 import stat
 from collections.abc import Sequence
 from contextlib import suppress
-from functools import lru_cache
 from typing import NamedTuple
 
 from aide_compare.base.escapes import shown
@@ -59,9 +58,6 @@ class SideTexts(NamedTuple):
 
     old: Texts
     new: Texts
-
-
-NO_TEXTS = SideTexts({}, {})
 
 
 def exact_bytes(value: str | bytes) -> bytes:
@@ -196,7 +192,6 @@ _DECODERS = {
 DECODED = frozenset(("Perm", *_DECODERS))
 
 
-@lru_cache(maxsize=1024)
 def decoded(label: str, value: Value, kind: str | None) -> str | None:
     """The value of an attribute (by its name in the details) of a file of this kind for people,
     None if nothing is to decode."""
@@ -235,8 +230,6 @@ def _side_texts(values: Values, kind: str | None) -> dict[str, str]:
 def texts_of(change: Change) -> SideTexts:
     """The texts of the values of both sides. If two values have one text, which would hide the
     change, neither has it."""
-    if DECODED.isdisjoint(change.old) and DECODED.isdisjoint(change.new):
-        return NO_TEXTS
     old, new = (_side_texts(*side) for side in zip(change.sides, kinds_of(change)))
     for label in list(old):
         if old[label] == new.get(label) and change.old[label] != change.new[label]:
