@@ -73,17 +73,11 @@ class WeighingTest(ModuleTest):
                 weighed(weights, fields_of(new={**NEW, "UID": number}))
         self.assertEqual(len(weights._known), 3, "no more are kept than may be")
 
-    def test_remembered(self) -> None:
-        """An access list in base 16 counts, although such rights without it came before."""
-        weights = Weights()
-        before = weighed(weights, fields_of(old=PLAIN, new=PLAIN))
-        listed = weighed(weights, fields_of(old=PLAIN, new={**PLAIN, "ACL_hex": "ff"}))
-        self.assertLess(listed[1], before[1])
-
     def test_members(self) -> None:
         """Whatever is remembered of lines before, each is weighed as if it were the first one."""
         sides: list[dict[str, Any]] = [PLAIN, FOLDER, OLD, NEW, GREATER, {**NEW, "Linkcount": 2}]
         sides += [{**FOLDER, "Linkcount": 3}, {**PLAIN, "SHA256": "7"}, {**PLAIN, "MD5": "7"}]
+        sides += [{**PLAIN, "ACL_hex": "ff"}]
         lines = [
             {**fields_of(letters, old=old, new=new), "type": word}
             for letters in (SAME, "!" + SAME[1:], "f.........n.H.....", SAME[:4] + "p" + SAME[5:])

@@ -15,11 +15,6 @@ Others = Counter[tuple[str, str, int]]
 NO_OTHERS: Others = Counter()
 
 
-def may_be_roots(fields: Fields) -> bool:
-    """Whether one side of a change is root's, or its owner is not known."""
-    return owner_of_change(*rights_of(fields)) in (None, ROOT)
-
-
 class LineRoom:
     """Takes the lines of the program. Up to the limit all bytes go to `keep`. After that only lines
     of changes that may be root's do, up to twice the limit, and others are counted."""
@@ -60,8 +55,10 @@ class LineRoom:
             self.end = line
             return
         change = change_line(parsed(line), line)
-        # What decides on reports is open though a trusted pair accounts for it.
-        if change.account is Standing.TRUSTED or may_be_roots(change.fields):
+        # It may be root's if its owner is not known. What decides on reports is open though a
+        # trusted pair accounts for it.
+        owner = owner_of_change(*rights_of(change.fields))
+        if owner in (None, ROOT) or change.account is Standing.TRUSTED:
             self.put(line)
         else:
             self.others[(*change.counted, change.left_out)] += 1

@@ -10,14 +10,11 @@ WIDTH = 80
 MAX_NOTES = 6
 
 
-def wrapped(text: str) -> list[str]:
-    """A text in lines; those that follow the first one are indented."""
-    return wrap(text, WIDTH, subsequent_indent="  ", break_on_hyphens=False)
-
-
 def note_lines(notes: Iterable[str], limit: int = MAX_NOTES) -> list[str]:
     """Notes in so many lines. Those that have no room are counted."""
-    lines = [line for note in notes for line in wrapped(note)]
+    lines = []
+    for note in notes:
+        lines += wrap(note, WIDTH, subsequent_indent="  ", break_on_hyphens=False)
     if len(lines) <= limit:
         return lines
     return [*lines[: limit - 1], f"({len(lines) - limit + 1} more lines)"]
