@@ -128,7 +128,7 @@ class Help(NamedTuple):
 class Parser(argparse.ArgumentParser):
     """The parser of what a command is asked for. Faults have the status 15."""
 
-    def __init__(self, asked: type[Request], help: Help) -> None:
+    def __init__(self, request_class: type[Request], help: Help) -> None:
         super().__init__(
             prog=help.name,
             description=help.description,
@@ -139,7 +139,7 @@ class Parser(argparse.ArgumentParser):
             formatter_class=Formatter,
         )
         self.names: list[str] = []  # Of all options.
-        self.add_rows(asked.rows())
+        self.add_rows(request_class.rows())
 
     def add_rows(self, rows: Mapping[str, Option | Operand]) -> None:
         """Adds options and operands, whose values are those of these fields."""
@@ -173,24 +173,29 @@ class Parser(argparse.ArgumentParser):
 
 
 def read(
-    asked: type[AnyRequest], words: Sequence[str], help: Help, defaults: OptionValues | None = None
+    request_class: type[AnyRequest],
+    words: Sequence[str],
+    help: Help,
+    defaults: OptionValues | None = None,
 ) -> AnyRequest:
     """What the words of a command line ask for, and the defaults where they say nothing."""
-    return filled(asked, Parser(asked, help).parse(words), defaults or {})
+    return filled(request_class, Parser(request_class, help).parse(words), defaults or {})
 
 
-def filled(asked: type[AnyRequest], given: OptionValues, defaults: OptionValues) -> AnyRequest:
+def filled(
+    request_class: type[AnyRequest], command_line: OptionValues, defaults: OptionValues
+) -> AnyRequest:
     """What a command line asks for that gives these values, and the defaults where it gives none. A
     list has those of both."""
     values: OptionValues = {}
-    for field, row in asked.rows().items():
+    for field, row in request_class.rows().items():
         if isinstance(row, Operand):
-            values[field] = given[field] or defaults.get(field, row.default)
+            values[field] = command_line[field] or defaults.get(field, row.default)
         elif row.is_repeated:
-            values[field] = [*defaults.get(row.attribute, ()), *given.get(field, ())]
+            values[field] = [*defaults.get(row.attribute, ()), *command_line.get(field, ())]
         else:
-            values[field] = given.get(field, defaults.get(row.attribute, row.usual))
-    return asked(values)
+            values[field] = command_line.get(field, defaults.get(row.attribute, row.usual))
+    return request_class(values)
 
 
 def _operand(operand: Operand, text: str) -> object:

@@ -114,10 +114,10 @@ def _become_program(
         with suppress(OSError):  # The one of this list is closed.
             fcntl.fcntl(int(name), fcntl.F_SETFD, fcntl.FD_CLOEXEC)
     null = os.open("/dev/null", os.O_RDWR | os.O_CLOEXEC)
-    given = {0: null, 1: null, 2: null, **descriptors}
+    own = {0: null, 1: null, 2: null, **descriptors}
     # First above all these numbers, of which some may be those of others.
-    after = max(given) + 1
-    copies = {place: fcntl.fcntl(given[place], fcntl.F_DUPFD_CLOEXEC, after) for place in given}
+    after = max(own) + 1
+    copies = {place: fcntl.fcntl(own[place], fcntl.F_DUPFD_CLOEXEC, after) for place in own}
     for place, descriptor in copies.items():
         os.dup2(descriptor, place)
     if _limits_before:

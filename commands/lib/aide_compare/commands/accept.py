@@ -248,12 +248,12 @@ def run(request: AcceptRequest, is_quiet: bool) -> int:
 
 
 def main(arguments: Sequence[str]) -> int:
-    asked = read(AcceptOptions, arguments, HELP)
-    asked.refuse_contradictions()
+    options = read(AcceptOptions, arguments, HELP)
+    options.refuse_contradictions()
     defaults = Defaults()
-    if not (asked.files and asked.digest):
+    if not (options.files and options.digest):
         defaults = read_defaults(arguments)
-    new, baseline = asked.files or reversed(machines_databases(defaults))
-    digest = asked.digest or wanted_after_question(new, baseline, defaults)
-    request = AcceptRequest(new, baseline, digest, asked.keep_open, asked.max_size)
-    return run(request, asked.is_quiet)
+    new, baseline = options.files or reversed(machines_databases(defaults))
+    digest = options.digest or wanted_after_question(new, baseline, defaults)
+    request = AcceptRequest(new, baseline, digest, options.keep_open, options.max_size)
+    return run(request, options.is_quiet)

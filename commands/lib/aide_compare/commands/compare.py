@@ -170,10 +170,12 @@ def hint_for(pattern: str) -> str:
     return f"; all that is in a directory: {shown(pattern.rstrip('/'), 200)}/**"
 
 
-def print_comparison(asked: type[PrintRequest], help: Help, arguments: Sequence[str]) -> int:
+def print_comparison(
+    request_class: type[PrintRequest], help: Help, arguments: Sequence[str]
+) -> int:
     """Compares and prints as the arguments of a command ask for it. Returns the status."""
-    given = Parser(asked, help).parse(arguments)
-    own_request = filled(asked, given, {})
+    command_line = Parser(request_class, help).parse(arguments)
+    own_request = filled(request_class, command_line, {})
     refuse_names(own_request)
     if own_request.user:
         give_up(own_request.user)
@@ -181,7 +183,7 @@ def print_comparison(asked: type[PrintRequest], help: Help, arguments: Sequence[
     keeps_failure = own_request.state is not None
     try:
         defaults = read_defaults(arguments)
-        request = with_defaults(asked, given, defaults)
+        request = with_defaults(request_class, command_line, defaults)
         refuse_without_proof(request)
         printer = Printer(request, own_request.exclude)
         job = printer.job(work_request(request, defaults), keeps_failure)

@@ -141,10 +141,14 @@ def refuse_names(request: CompareRequest) -> None:
         raise usage_fault("--config names no databases: name OLD and NEW")
 
 
-def with_defaults(asked: type[AnyRequest], given: OptionValues, defaults: Defaults) -> AnyRequest:
+def with_defaults(
+    request_class: type[AnyRequest], command_line: OptionValues, defaults: Defaults
+) -> AnyRequest:
     """What a command line asks for that gives these values, and the administrator's defaults where
     it says nothing."""
-    return filled(asked, given, comparison_defaults(defaults, given["databases"]))
+    return filled(
+        request_class, command_line, comparison_defaults(defaults, command_line["databases"])
+    )
 
 
 def work_request(request: CompareRequest, defaults: Defaults) -> ComparisonInput:

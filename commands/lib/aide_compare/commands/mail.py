@@ -88,25 +88,27 @@ class MailJob(NamedTuple):
     notes: Sequence[str] = ()  # What has to be said of the defaults.
 
 
-def refuse_contradictions(request: MailRequest, given: OptionValues, fault: Fault | None) -> None:
+def refuse_contradictions(
+    request: MailRequest, command_line: OptionValues, fault: Fault | None
+) -> None:
     """Refuses what means nothing without another word, or with it. `fault`: of the defaults."""
-    refuse_names(filled(CompareRequest, given, {}))
-    if "weekly" in given and not (request.state or fault):
+    refuse_names(filled(CompareRequest, command_line, {}))
+    if "weekly" in command_line and not (request.state or fault):
         text = "--weekly needs --state: a file next to it says when the last one was sent"
         raise Fault(Status.USAGE, text)
     if request.unit_failed and not request.send_queue:
         raise Fault(Status.USAGE, "--unit-failed needs --send-queue")
     if request.send_queue and (request.queue or request.is_test or request.state):
         raise Fault(Status.USAGE, "--send-queue goes with none of --queue, --test and --state")
-    if (request.send_queue or request.is_test) and given["databases"]:
+    if (request.send_queue or request.is_test) and command_line["databases"]:
         raise Fault(Status.USAGE, "with --send-queue or --test no databases are compared")
 
 
 def job_of(words: Sequence[str]) -> MailJob:
     """What the options ask for, and the administrator's defaults where they say nothing. A fault of
     the defaults costs no mail, and the mail says it."""
-    given = Parser(MailRequest, HELP).parse(words)
-    compares = "send_queue" not in given and "is_test" not in given
+    command_line = Parser(MailRequest, HELP).parse(words)
+    compares = "send_queue" not in command_line and "is_test" not in command_line
     defaults = Defaults()
     values: OptionValues = {}
     notes: list[str] = []
@@ -114,16 +116,16 @@ def job_of(words: Sequence[str]) -> MailJob:
     try:
         defaults = read_defaults(words)
         if compares:
-            values = comparison_defaults(defaults, given["databases"], note=notes.append)
+            values = comparison_defaults(defaults, command_line["databases"], note=notes.append)
         values.update(defaults.values(MAIL_DEFAULTS))
     except Fault as error:
         fault = error
         if compares:
-            values.setdefault(STATE.attribute, machines_state(defaults, given["databases"]))
+            values.setdefault(STATE.attribute, machines_state(defaults, command_line["databases"]))
         else:
             say(error.text)
-    request = filled(MailRequest, given, values)
-    refuse_contradictions(request, given, fault)
+    request = filled(MailRequest, command_line, values)
+    refuse_contradictions(request, command_line, fault)
     return MailJob(request, defaults, fault, notes)
 
 
