@@ -58,15 +58,17 @@ class KeptLinesTest(ModuleTest):
 
     def test_room(self) -> None:
         """Whatever pieces the lines come in, and wherever the limit is, what is kept is a stream
-        with all of root's changes, and the others are counted."""
+        with all of root's changes and all that decide on reports, and the others are counted."""
         more: list[Fields] = [{}, {"same_as": "old"}, {"left_out": 2}, {"same_as": "trusted"}]
         changes = [
             fields_of(f"/srv/{number}", "changed", number % 3 * 500, **more[number % 4])
             for number in range(10, 50)
         ]
+        table = "/usr/share/aide-compare/severity.conf"
+        changes.append(fields_of(table, "changed", 500, same_as="trusted"))
         data = os.pread(stream_of(*changes), ROOM, 0)
         end = json.loads(data.splitlines()[-1])
-        roots = {each["path"] for each in changes if not each["new"]["UID"]}
+        roots = {each["path"] for each in changes if not each["new"]["UID"]} | {table}
         for limit in (*range(150, len(data), 577), len(data)):
             for size in (1, 100, 4000, len(data)):
                 kept = bytearray()
@@ -84,6 +86,7 @@ class KeptLinesTest(ModuleTest):
                 judged = Judged(reader_over(in_memory(bytes(kept))), room.others)
                 counts = judged.counts
                 self.assertEqual((counts.same, counts.trusted, counts.left_out), (10, 10, 10))
+                self.assertEqual(judged.left_out, {2: 10})
 
     def test_read(self) -> None:
         """What is kept is a stream as of aide_lines, whose end has the standings of all changes."""
