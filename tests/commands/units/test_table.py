@@ -19,7 +19,7 @@ from aide_compare.changes.severity import RANKS
 from aide_compare.changes.table import Table, ChangeRow
 from aide_compare.changes.weighing import directory_of, group_of_owner, user_number
 from aide_compare.compare import outputs
-from aide_compare.show.digest import MAIL, digest
+from aide_compare.show.digest import MAIL, digest, in_directory
 
 
 def change(path: bytes, owner: int = 0, severity: str = "high") -> ChangeRow:
@@ -56,6 +56,20 @@ class TableTest(ModuleTest):
         listed = [places[place - 1] for part in parts for place in part.places]
         # Behind ten of two directories are the others, as many of each again.
         self.assertEqual(listed, [place for place in places if place[0] == "1" or place[-1] < "5"])
+
+    def test_few_lines(self) -> None:
+        """However few lines there are, the changes of each severity and group of owners are
+        counted: root's leave one line to those of services and of users."""
+        owners = {0: "/etc/%d", 33: "/srv/%d", 1000: "/home/%d"}
+        changes = [
+            change((path % number).encode(), owner)
+            for owner, path in owners.items()
+            for number in range(30)
+        ]
+        parts = list(digest(table_of(*changes), MAIL._replace(height=9), in_directory))
+        lines = [(len(part.places), *part.rest) for part in parts]
+        rest = [(0, f"and 30 more in {directory}") for directory in ("/srv", "/home")]
+        self.assertEqual(lines, [(6, "and 24 more in /etc"), *rest])
 
     def test_flood(self) -> None:
         """What a user has in ever more directories takes no memory."""

@@ -100,7 +100,8 @@ def digest(table: Rows, room: Room, names: Names) -> Iterator[Part]:
     sizes = [size for _, _, size, _ in parts]
     shares = [min(size, room.shares[level][owners]) for level, owners, size, _ in parts]
     height = room.height or sum(shares)
-    rooms = rooms_of(height, shares, [first for _, _, _, first in parts], sizes)
+    at_least = [1] * len(parts)  # Who has no share left is counted all the same.
+    rooms = rooms_of(height, at_least, shares, [first for _, _, _, first in parts], sizes)
     for (level, owners, size, _), lines in zip(parts, rooms):
         if not lines:
             continue
