@@ -62,8 +62,9 @@ class AnswersTest(CommandTest):
         )
         pair = ("old.db", "new.db")
         self.answered(7, None, [told], TOOL, "--exclude", "/b/", *pair)
-        all_of_it = self.answered(7, None, None, TOOL, "--exclude", "/x/**", *pair)
-        self.assertIn(b"--exclude /x/** leaves out no change\n", all_of_it.errors)
+        for pattern in ("/x/**", "programs(cron) /x"):
+            said = self.answered(7, None, None, TOOL, "--exclude", pattern, *pair)
+            self.assertIn(f"--exclude {pattern} leaves out no change\n".encode(), said.errors)
         self.write(LIST, "/x/**\n")
         said = self.answered(7, None, None, TOOL, "--exclude-from", LIST, *pair)
         self.assertNotIn(b"leaves out no change", said.errors)
@@ -121,6 +122,18 @@ class NeverLeftOutTest(CommandTest):
             said = self.call(TOOL, "show", path.decode(), "--exclude", "/**", "old.db", "new.db")
             self.assertIn(b"    /** (--exclude) names it, but it is never left out: ", said.output)
             self.assertNotIn(b"never", self.compared(Night(), new, "--exclude", "/**"))
+
+    def test_settings(self) -> None:
+        """A list leaves out settings, unless a trusted pair has the same change."""
+        new = Night().file(b"/etc/default/aide", b"text", 0o100644)
+        words = ("-v", "--exclude", "/etc/default/*")
+        self.assertIn(b"left out by /etc/default/*", self.compared(Night(), new, *words))
+        self.write("there-old.db", Night().database())
+        self.write("there-new.db", new.database())
+        pair = ("--trusted", "there-old.db", "there-new.db")
+        errors = self.compared(Night(), new, *words, *pair)
+        told = b"/etc/default/* (--exclude) names it, but a trusted pair has the same change, and "
+        self.assertIn(told + b"none silences what decides on reports\n", errors)
 
     def test_directories(self) -> None:
         """Who may write one decides."""

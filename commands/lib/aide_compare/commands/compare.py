@@ -164,8 +164,8 @@ class Printer:
 
 
 def hint_for(pattern: str) -> str:
-    """What names the contents of a directory."""
-    if pattern.endswith("/**"):
+    """What names the contents of a directory, if the pattern may be meant for them."""
+    if pattern.endswith("/**") or not pattern.startswith("/"):
         return ""
     return f"; all that is in a directory: {shown(pattern.rstrip('/'), 200)}/**"
 

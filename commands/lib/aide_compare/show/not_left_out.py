@@ -25,6 +25,7 @@ MODE_UNKNOWN = "its mode is not known"
 DEVICE = "a device that somebody may open"
 PROGRAM = "a program, and the line does not begin with programs(REASON)"
 IN_ORDER = ("set-user-ID", "set-group-ID", "capabilities", DEVICE, MODE_UNKNOWN, PROGRAM)
+OF_PAIR = "a trusted pair has the same change, and none silences what decides on reports"
 MAX_CHANGES = 10000  # That are looked at.
 MAX_NOTES = 20
 SET_USER_ID, SET_GROUP_ID = 0o4000, 0o2000
@@ -110,6 +111,8 @@ class Reasons:
         path = change_of(fields).path
         for line, pattern in self.patterns:
             if _names(pattern, path):
+                if fields.get("same_as") == "trusted":
+                    return f"{line.words()} names it, but {OF_PAIR}"
                 names_programs = line.text.strip().startswith(FOR_PROGRAMS)
                 old, new = rights_of(fields)
                 reasons = [_reason_of_sides(old, new, names_programs)]
