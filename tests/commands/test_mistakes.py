@@ -67,6 +67,7 @@ class MistakesTest(CommandTest):
                 self.assertIn(b"KeyError", text)
                 is_known = label not in UNKNOWN
                 self.assertEqual(b"  changed  /c" in text, is_known, text)
+                self.assertEqual(b"there is no page" in text, is_known, text)
                 self.assertEqual(b"could not be judged" in text, is_known and label not in JUDGED)
 
     def test_state(self) -> None:

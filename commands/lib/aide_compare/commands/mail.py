@@ -130,6 +130,7 @@ def job_of(words: Sequence[str]) -> MailJob:
 
 
 MAX_PAGE = 1 << 19  # Bytes of the page of a mail.
+NO_PAGE = f"{HELP.name}: there is no page"
 
 
 def message_of(
@@ -166,6 +167,8 @@ def whole_message(
     page = None
     if job.request.has_page and comparison.differs:
         page = page_of(comparison, judged, notes)
+    elif job.request.has_page and comparison.has_failed and comparison.lines:
+        notes.append(f"{NO_PAGE}: the comparison has failed")
     lines = lines_of_mail(comparison, judged, notes)
     text = clean("".join(f"{line}\n" for line in lines))
     subject = subject_of(state, columns, comparison.warnings)
@@ -224,7 +227,7 @@ def page_of(comparison: Comparison, judged: Judged | None, notes: list[str]) -> 
             return b"".join(parts_of(comparison, judged, MAX_PAGE))
         except EXPECTED as error:
             why = why_of(error)
-    notes.append(f"{HELP.name}: there is no page: {why}")
+    notes.append(f"{NO_PAGE}: {why}")
     return None
 
 
