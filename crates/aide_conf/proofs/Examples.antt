@@ -21,7 +21,8 @@ use Rattle.aide_conf.specs.Effect.{is_accepted, is_older, option_named, bool_nam
 use Rattle.aide_conf.specs.Directive.{line_effect, directive_of, directive_by, condition}
 use Rattle.aide_conf.specs.Marks.{Marked, says, last_given}
 use Rattle.aide_conf.specs.MarkedVariables.{variable}
-use Rattle.aide_conf.specs.PlaceFault.{fault_at, missing}
+use Rattle.aide_conf.specs.code.PlaceFault.{missing}
+use Rattle.aide_conf.specs.FaultOrder.{fault_at, fault_order, has_fault}
 use Rattle.aide_conf.specs.Settings.{counted, level_in, switch_in}
 
 -- ---- lines
@@ -49,13 +50,13 @@ unfolding line line_effect directive_of kept_effect value_effect is_selection is
 level = refl
 
 group_line : line (codes "my = p+s") ≡ DefinesGroup (codes "my") (codes "p+s")
-unfolding line line_effect directive_of kept_effect is_selection is_directive option_named main_option switch_named list_named is_accepted
-    is_older strip is_blank is_group_name is_word is_word_byte attr_named row_of row is_empty_name
+unfolding line line_effect directive_of kept_effect is_selection is_directive option_named main_option switch_named list_named
+    is_accepted is_older strip is_blank is_group_name is_word is_word_byte attr_named row_of row is_empty_name
 group_line = refl
 
 taken_name : line (codes "p = s") ≡ Faulty BadName
-unfolding line line_effect directive_of kept_effect is_selection is_directive option_named main_option switch_named list_named is_accepted
-    is_older strip is_blank is_group_name is_word is_word_byte attr_named row_of row is_empty_name
+unfolding line line_effect directive_of kept_effect is_selection is_directive option_named main_option switch_named list_named
+    is_accepted is_older strip is_blank is_group_name is_word is_word_byte attr_named row_of row is_empty_name
 taken_name = refl
 
 no_line : line (codes "hello") ≡ Faulty BadLine
@@ -84,8 +85,8 @@ unfolding line line_effect directive_of kept_effect value_effect is_selection is
 two_slashes = refl
 
 empty_older : line (codes "grouped=") ≡ Faulty BadValue
-unfolding line line_effect directive_of kept_effect is_selection is_directive option_named main_option switch_named list_named is_accepted
-    is_older strip is_blank
+unfolding line line_effect directive_of kept_effect is_selection is_directive option_named main_option switch_named list_named
+    is_accepted is_older strip is_blank
 empty_older = refl
 
 -- ---- settings of places
@@ -119,8 +120,8 @@ last_of_two = refl
 
 unknown_attribute : fault_at Check [] (record (at (codes "report_force_attrs=p+nope")) { verdict = Some (Err (UnknownName 2)) })
     ≡ Some UnknownAttribute
-unfolding at fault_at says line_effect directive_of kept_effect value_effect is_selection is_directive option_named main_option
-    switch_named list_named strip is_blank
+unfolding at fault_at fault_order has_fault says line_effect directive_of kept_effect value_effect is_selection is_directive
+    option_named main_option switch_named list_named strip is_blank
 unknown_attribute = refl
 
 end_of_after : Marked
@@ -136,19 +137,19 @@ end_of_after =
     }
 
 no_old : fault_at Compare [] end_of_after ≡ Some NoOldDatabase
-unfolding end_of_after fault_at last_given says
+unfolding end_of_after fault_at fault_order has_fault last_given says
 no_old = refl
 
 no_new : missing false true ≡ Some NoNewDatabase
 no_new = refl
 
 not_asked : fault_at Check [] end_of_after ≡ None
-unfolding end_of_after fault_at
+unfolding end_of_after fault_at fault_order has_fault
 not_asked = refl
 
 -- a block that is open at the end of its text, whatever else is missing there
 open_block : fault_at Compare [] (record end_of_after { depth = 1 }) ≡ Some MissingEndif
-unfolding end_of_after fault_at
+unfolding end_of_after fault_at fault_order has_fault
 open_block = refl
 
 -- ---- directives
@@ -193,24 +194,26 @@ if_other = refl
 -- ---- faults of blocks
 
 else_outside : fault_at Check [] (at (codes "@@else")) ≡ Some StrayElse
-unfolding at fault_at says line_effect directive_of directive_by is_directive is_omitted strip is_blank
+unfolding at fault_at fault_order has_fault says line_effect directive_of directive_by is_directive is_omitted strip is_blank
 else_outside = refl
 
 second_else : fault_at Check [] (record (at (codes "@@else")) { depth = 1; divided = true }) ≡ Some StrayElse
-unfolding at fault_at says line_effect directive_of directive_by is_directive is_omitted strip is_blank
+unfolding at fault_at fault_order has_fault says line_effect directive_of directive_by is_directive is_omitted strip is_blank
 second_else = refl
 
 endif_outside : fault_at Check [] (at (codes "@@endif now")) ≡ Some StrayEndif
-unfolding at fault_at says line_effect directive_of directive_by is_directive is_omitted strip is_blank
+unfolding at fault_at fault_order has_fault says line_effect directive_of directive_by is_directive is_omitted strip is_blank
 endif_outside = refl
 
 -- too deep comes before a bad name
 thirty_third : fault_at Check [] (record (at (codes "@@ifdef")) { depth = 32 }) ≡ Some TooDeep
-unfolding at fault_at says line_effect directive_of directive_by is_directive is_omitted strip is_blank is_word is_word_byte
+unfolding at fault_at fault_order has_fault says line_effect directive_of directive_by is_directive is_omitted strip is_blank is_word
+    is_word_byte
 thirty_third = refl
 
 thirty_second : fault_at Check [] (record (at (codes "@@ifdef")) { depth = 31 }) ≡ Some BadName
-unfolding at fault_at says line_effect directive_of directive_by is_directive is_omitted strip is_blank is_word is_word_byte
+unfolding at fault_at fault_order has_fault says line_effect directive_of directive_by is_directive is_omitted strip is_blank is_word
+    is_word_byte
 thirty_second = refl
 
 -- ---- variables after some lines

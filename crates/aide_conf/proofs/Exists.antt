@@ -27,7 +27,7 @@ use Rattle.aide_conf.specs.Marks.{Marked, last_given}
 use Rattle.aide_conf.specs.MarkedBlocks.{is_text, seen, seen_in}
 use Rattle.aide_conf.specs.MarkedGroups.{IsJudgedWell}
 use Rattle.aide_conf.specs.MarkedPaths.{path_set}
-use Rattle.aide_conf.specs.PlaceFault.{fault_at}
+use Rattle.aide_conf.specs.FaultOrder.{fault_at}
 use Rattle.aide_conf.specs.RightMarks.{AreSound, IsMarkedWell}
 use Rattle.aide_conf.specs.Options.{switch_default, options_of}
 use Rattle.aide_conf.specs.Settings.{AreOptions, AreSettings, Configured, attrs_in, counted, has_any, level_in, switch_in}

@@ -11,8 +11,7 @@ use Rattle.aide_conf.specs.Options.{switch_named, list_named}
 use Rattle.aide_conf.specs.Effect.{kept_effect, main_option, path_of, option_named, value_effect}
 use Rattle.aide_conf.specs.Directive.{line_effect, directive_of, directive_by, condition}
 use Rattle.aide_conf.specs.Marks.{Marked, says}
-use Rattle.aide_conf.specs.PlaceFault.{fault_at}
-use Rattle.aide_conf.specs.FaultOrder.{fault_order, has_fault}
+use Rattle.aide_conf.specs.FaultOrder.{fault_at, fault_order, has_fault}
 
 -- every kind of fault except out of memory
 all_of_them : length fault_order ≡ 17
@@ -34,18 +33,18 @@ at depth bytes =
 
 -- an option that is left out, without a value
 older_left_out : has_fault Check [] (at 0 (codes "grouped=")) LeftOut ≡ true
-unfolding at has_fault directive_of is_directive is_selection option_named main_option switch_named list_named is_accepted is_older strip
-    is_blank
+unfolding at has_fault directive_of is_directive is_selection option_named main_option switch_named list_named is_accepted is_older
+    strip is_blank
 older_left_out = refl
 
 older_empty : has_fault Check [] (at 0 (codes "grouped=")) BadValue ≡ true
-unfolding at has_fault directive_of is_directive is_selection option_named main_option switch_named list_named is_accepted is_older strip
-    is_blank
+unfolding at has_fault directive_of is_directive is_selection option_named main_option switch_named list_named is_accepted is_older
+    strip is_blank
 older_empty = refl
 
 empty_told : fault_at Check [] (at 0 (codes "grouped=")) ≡ Some BadValue
-unfolding at fault_at says line_effect directive_of kept_effect is_selection is_directive option_named main_option switch_named list_named
-    is_accepted is_older strip is_blank
+unfolding at fault_at fault_order has_fault says line_effect directive_of kept_effect is_selection is_directive option_named
+    main_option switch_named list_named is_accepted is_older strip is_blank
 empty_told = refl
 
 -- a URL that is left out leads to no path
@@ -58,8 +57,8 @@ unfolding at has_fault directive_of is_directive is_selection option_named main_
 stdin_no_path = refl
 
 left_out_told : fault_at Check [] (at 0 (codes "database_in=stdin")) ≡ Some LeftOut
-unfolding at fault_at says line_effect directive_of kept_effect value_effect is_selection is_directive option_named main_option strip
-    is_blank is_left_out
+unfolding at fault_at fault_order has_fault says line_effect directive_of kept_effect value_effect is_selection is_directive
+    option_named main_option strip is_blank is_left_out
 left_out_told = refl
 
 -- a block with a bad name, and one with a condition of a wrong form, in 32 others
@@ -68,7 +67,8 @@ unfolding at has_fault directive_of directive_by is_directive is_omitted strip i
 name_bad = refl
 
 depth_told : fault_at Check [] (at 32 (codes "@@ifdef A B")) ≡ Some TooDeep
-unfolding at fault_at says line_effect directive_of directive_by is_directive is_omitted strip is_blank is_word is_word_byte
+unfolding at fault_at fault_order has_fault says line_effect directive_of directive_by is_directive is_omitted strip is_blank is_word
+    is_word_byte
 depth_told = refl
 
 condition_deep : has_fault Check [] (at 32 (codes "@@if version A")) TooDeep ≡ true
@@ -76,5 +76,5 @@ unfolding at has_fault directive_of directive_by condition is_directive is_omitt
 condition_deep = refl
 
 condition_told : fault_at Check [] (at 32 (codes "@@if version A")) ≡ Some BadDirective
-unfolding at fault_at says line_effect directive_of directive_by condition is_directive is_omitted strip is_blank
+unfolding at fault_at fault_order has_fault says line_effect directive_of directive_by condition is_directive is_omitted strip is_blank
 condition_told = refl

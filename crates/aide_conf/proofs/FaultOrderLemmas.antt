@@ -33,11 +33,10 @@ use Rattle.aide_conf.specs.declared.directive.Directive.TheVariants.{Unknown}
 use Rattle.aide_conf.specs.Directive.{directive_of, directive_effect, line_effect}
 use Rattle.aide_conf.specs.Marks.{Marked, says, line_says}
 use Rattle.aide_conf.specs.MarkedGroups.{expression_in, meaning_after, is_too_many, IsJudgedWell}
-use Rattle.aide_conf.specs.PlaceFault.{verdict_fault, fault_unless, line_fault, end_fault}
+use Rattle.aide_conf.specs.code.PlaceFault.{verdict_fault, fault_unless, line_fault, end_fault, place_fault}
 use Rattle.aide_conf.specs.MarkedVariables.{is_one_variable_more}
-use Rattle.aide_conf.specs.PlaceFault.{place_fault, fault_at}
 use Rattle.aide_conf.specs.RightMarks.{IsMarkedWell}
-use Rattle.aide_conf.specs.FaultOrder.{fault_order, has_fault, place_has, line_has, is_wrong, assignment_of}
+use Rattle.aide_conf.specs.FaultOrder.{fault_at, fault_order, has_fault, place_has, line_has, is_wrong, assignment_of}
 use Rattle.aide_conf.specs.FaultOrder.{assignment_in, assignment_by, assignment_to, Assignment, Silent, has_bad_group}
 use Rattle.aide_conf.specs.FaultOrder.{is_nameless, has_bad_value, is_left_out_by, has_bad_url, has_long_path}
 use Rattle.aide_conf.specs.FaultOrder.{ToOption, is_no_word_of, is_option_left_out}
@@ -282,6 +281,6 @@ place_told need earlier x (Some line) e j =
 
 -- the fault of a place whose marks are right
 pub first_of_place : (need : Need) (earlier : List Marked) (x : Marked) → IsMarkedWell earlier x
-    → fault_at need earlier x ≡ find (has_fault need earlier x) fault_order
+    → place_fault need earlier x x.place.line ≡ fault_at need earlier x
 unfolding fault_at has_fault
 first_of_place need earlier x marked = search (rules, place_told, found)

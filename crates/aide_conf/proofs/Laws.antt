@@ -1,10 +1,9 @@
 -- Laws of the definitions of a configuration.
-use Rattle.std.proofs.Common.{ℕ, ◌≡◌, refl, List, Some, None, Result, Ok, Err}
-use Rattle.std.specs.Prelude.{IsSome, ◌↔◌}
+use Rattle.std.proofs.Common.{ℕ, ◌≡◌, refl, List, Some, Result, Ok, Err}
+use Rattle.std.specs.Prelude.{IsSome}
 use Rattle.aide_conf.specs.declared.task.Need.{Need}
 use Rattle.aide_conf.specs.declared.task.Need.TheVariants.{Compare}
 use Rattle.aide_conf.specs.declared.fault.ConfFault.{ConfFault}
-use Rattle.aide_conf.specs.declared.fault.ConfFaultKind.{ConfFaultKind}
 use Rattle.aide_conf.specs.declared.option_kind.OptionKind.TheVariants as option
 use Rattle.aide_conf.specs.declared.options.Switch.{Switch}
 use Rattle.aide_conf.specs.declared.options.Switch.TheVariants.{Grouped}
@@ -12,19 +11,13 @@ use Rattle.aide_conf.specs.declared.options.AttrList.{AttrList}
 use Rattle.aide_conf.specs.declared.options.AttrList.TheVariants.{IgnoreAdded}
 use Rattle.aide_conf.specs.Options.{switch_name, switch_named, list_name, list_named}
 use Rattle.aide_conf.specs.Effect.{main_option, option_named}
-use Rattle.aide_conf.specs.Cutting.{Place}
 use Rattle.aide_conf.specs.Blocks.{Seen, AreEnclosing}
-use Rattle.aide_conf.specs.Marks.{Marked}
-use Rattle.aide_conf.specs.PlaceFault.{fault_at}
-use Rattle.aide_conf.specs.RightMarks.{IsMarkedWell}
-use Rattle.aide_conf.specs.FaultOrder.{fault_order, IsFirstOfPlace, HasNoneOf, HasFaultyPlace}
 use Rattle.aide_conf.specs.Settings.{Configured}
-use Rattle.aide_conf.specs.ReadResult.{ReadsAs, IsRefused}
+use Rattle.aide_conf.specs.ReadResult.{ReadsAs}
 use Rattle.aide_conf.proofs.Depths.{one_depth}
 use Rattle.aide_conf.proofs.Only.{only_settings, only_first_fault}
 use Rattle.aide_conf.proofs.Exists.{reads_somehow}
 use Rattle.aide_conf.proofs.Named.{both_named}
-use Rattle.aide_conf.proofs.FaultOrderPlaces.{fault_is_first, no_fault_holds, faulty_places}
 
 -- Every three texts, for either need, read as settings or have a first fault.
 pub every_configuration_has_an_answer : (need : Need) (before file after : List ℕ)
@@ -57,18 +50,3 @@ name_of_a_list_sets_it _ = refl
 -- So many lines enclose a line, and no other number of them.
 pub a_line_has_one_depth : (m n : ℕ) (here : List Seen) → AreEnclosing m here → AreEnclosing n here → m ≡ n
 a_line_has_one_depth = one_depth
-
--- The fault of a line, or of the end of a text, is the first in the order that it has.
-pub fault_of_a_place_is_its_first : (need : Need) (before : List Marked) (x : Marked) (kind : ConfFaultKind)
-    → IsMarkedWell before x → (fault_at need before x ≡ Some kind) ↔ IsFirstOfPlace need before x kind
-fault_of_a_place_is_its_first = fault_is_first
-
--- It has no fault exactly if it has none of those in the order.
-pub place_without_a_fault_has_none : (need : Need) (before : List Marked) (x : Marked) → IsMarkedWell before x
-    → (fault_at need before x ≡ None) ↔ HasNoneOf need before x fault_order
-place_without_a_fault_has_none = no_fault_holds
-
--- The first fault of a configuration is the first that its place has.
-pub first_fault_is_the_first_of_its_place : (need : Need) (ps : List Place) (e : ConfFault)
-    → IsRefused need ps e ↔ HasFaultyPlace need ps e
-first_fault_is_the_first_of_its_place = faulty_places

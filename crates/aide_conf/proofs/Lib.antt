@@ -21,7 +21,6 @@ pub mod SetOf
 pub mod Exists
 pub mod Named
 pub mod FaultOrderLemmas
-pub mod FaultOrderPlaces
 mod FaultOrderExamples
 pub mod Laws
 pub mod MacroExamples

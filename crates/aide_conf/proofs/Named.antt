@@ -1,5 +1,5 @@
 -- What is read to be compared names both databases.
-use Rattle.std.proofs.Common.{rules, ℕ, ◌≡◌, ◌+◌, Bool, true, false, List, [], ◌∷◌, ◌++◌, Option, Some, None, Ok, refl}
+use Rattle.std.proofs.Common.{◌∙◌, rules, ℕ, ◌≡◌, ◌+◌, Bool, true, false, List, [], ◌∷◌, ◌++◌, Option, Some, None, Ok, refl}
 use Rattle.std.proofs.Common.{sym, ap, subst, append_assoc}
 use Rattle.std.specs.Prelude.{map, is_none, IsSome}
 use Rattle.std.specs.Option.{option_or}
@@ -11,7 +11,8 @@ use Rattle.aide_conf.specs.ReadResult.{ReadsAs}
 use Rattle.aide_conf.specs.Cutting.{Place, places_from, places_of, lines_of}
 use Rattle.aide_conf.specs.Marks.{Marked, says}
 use Rattle.aide_conf.specs.MarkedPaths.{path_set}
-use Rattle.aide_conf.specs.PlaceFault.{fault_at, missing}
+use Rattle.aide_conf.specs.code.PlaceFault.{place_fault, missing}
+use Rattle.aide_conf.proofs.FaultOrderLemmas.{first_of_place}
 use Rattle.aide_conf.specs.RightMarks.{AreSound}
 use Rattle.aide_conf.specs.Settings.{Configured}
 use Rattle.aide_conf.proofs.Steps.{last_given-same}
@@ -38,8 +39,8 @@ no_later (Some kind) later e = cc
 
 -- at the end of the last text, where it has no fault
 at_end : (earlier : List Marked) (x : Marked) → x.place.line ≡ None → x.place.text ≡ After
-    → fault_at Compare earlier x ≡ None → AreNamed (earlier ++ x ∷ [])
-unfolding fault_at says
+    → place_fault Compare earlier x x.place.line ≡ None → AreNamed (earlier ++ x ∷ [])
+unfolding says
 at_end earlier x no_line text sound = search (rules, none_missing, no_later, last_given-same, some_path)
 
 -- behind the last text
@@ -49,7 +50,8 @@ behind_last : (ls : List (List ℕ)) (n : ℕ) (earlier lines : List Marked) →
 behind_last [] n earlier [] e sound = cc
 behind_last [] n earlier (x ∷ []) e sound =
     let is : x.place ≡ record { text = After; number = n; line = None } = cc in
-    at_end earlier x (ap (λ (p : Place). p.line) is) (ap (λ (p : Place). p.text) is) sound.1
+    at_end earlier x (ap (λ (p : Place). p.line) is) (ap (λ (p : Place). p.text) is)
+    (first_of_place Compare earlier x sound.0 ∙ sound.1)
 behind_last [] n earlier (x ∷ y ∷ lines) e sound = cc
 behind_last (l ∷ ls) n earlier [] e sound = cc
 behind_last (l ∷ ls) n earlier (x ∷ lines) e sound =

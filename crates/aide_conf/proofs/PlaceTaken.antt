@@ -32,7 +32,9 @@ use Rattle.aide_conf.specs.MarkedBlocks.{seen, seen_in, is_text}
 use Rattle.aide_conf.specs.MarkedGroups.{meaning_after, IsJudgedWell, expression_in}
 use Rattle.aide_conf.specs.MarkedVariables.{value, is_defined}
 use Rattle.aide_conf.specs.RightMarks.{Grows, IsMarkedWell}
-use Rattle.aide_conf.specs.PlaceFault.{line_fault, fault_at, end_fault, end_block_fault, missing}
+use Rattle.aide_conf.specs.code.PlaceFault.{place_fault, line_fault, end_fault, end_block_fault, missing}
+use Rattle.aide_conf.specs.FaultOrder.{fault_at}
+use Rattle.aide_conf.proofs.FaultOrderLemmas.{first_of_place}
 use Rattle.aide_conf.specs.code.Builder.{IsBuiltFrom, TakesOne, TakesEffect, fault_of, place_at, text_at}
 use Rattle.aide_conf.proofs.StackLemmas.{used_right, depth_right, divided_right, single_next, opens_next, divides_next, closes_next}
 use Rattle.aide_conf.proofs.ExpansionLemmas.{is_expansion}
@@ -125,10 +127,6 @@ module _ (need : Need) (earlier : List Marked) (text : ConfText) (n : ℕ) (line
   unfolding says
   says-marked v = refl
 
-  fault-marked : (v : Verdict) → fault_at need earlier (marked v) ≡ fault_here v
-  unfolding fault_at says
-  fault-marked v = refl
-
   well : (v : Verdict) → IsJudgedWell (meaning_after earlier) (expression_in effect_here) v
       → IsMarkedWell earlier (marked v)
   well v j = record {
@@ -139,6 +137,14 @@ module _ (need : Need) (earlier : List Marked) (text : ConfText) (n : ℕ) (line
     is_expanded = is_expansion (value earlier) (directive_text line (directive_of line));
     is_judged = subst (λ z. IsJudgedWell (meaning_after earlier) (expression_in z) v) (sym (says-marked v)) j;
   }
+
+  place_told : (v : Verdict) → place_fault need earlier (marked v) (Some line) ≡ fault_here v
+  unfolding says
+  place_told v = refl
+
+  fault-marked : (v : Verdict) → IsJudgedWell (meaning_after earlier) (expression_in effect_here) v
+      → fault_at need earlier (marked v) ≡ fault_here v
+  fault-marked v j = sym (first_of_place need earlier (marked v) (well v j)) ∙ place_told v
 
   growing : line_grows (top_used fs) (length fs) line ≡ true → Grows earlier (place_at text n (Some line))
   growing g = record {
@@ -158,11 +164,11 @@ module _ (need : Need) (earlier : List Marked) (text : ConfText) (n : ℕ) (line
     marked t.0,
     refl,
     well t.0 t.1,
-    fault-marked t.0 ∙ t.2,
+    fault-marked t.0 t.1 ∙ t.2,
     t.3 (marked t.0) (says-marked t.0) refl,
     subst (λ z. IsOpen z gs) (sym (seen_in-more text earlier (marked t.0) refl)) (b t.0 t.2),
   )
-  takes_place gs q (Err kind) b m (inl t) = inl (marked t.0, refl, well t.0 t.1, fault-marked t.0 ∙ t.2)
+  takes_place gs q (Err kind) b m (inl t) = inl (marked t.0, refl, well t.0 t.1, fault-marked t.0 t.1 ∙ t.2)
   takes_place gs q (Err kind) b m (inr t) = inr (t, growing (m (ap Err t)))
 
   skipped_directive : is_skipped line ≡ true → directive_of line ≡ None
@@ -238,16 +244,17 @@ module _ (need : Need) (earlier : List Marked) (text : ConfText) (n : ℕ) (line
     plain_line q result d m t = search (rules, directive_taken)
 
   -- the blocks behind this line, where it has no fault
-  blocks_behind : (v : Verdict) → fault_at need earlier (marked v) ≡ None
+  blocks_behind : (v : Verdict) → IsJudgedWell (meaning_after earlier) (expression_in effect_here) v
+      → fault_at need earlier (marked v) ≡ None
       → (gs : List Frame) × IsOpen (seen_in text earlier ++ seen (marked v) ∷ []) gs
-  blocks_behind v f = by_skip (is_skipped line) refl
+  blocks_behind v j f = by_skip (is_skipped line) refl
     where
       by_length : is_skipped line ≡ false → (b : Bool) → (top_used fs && nat_lt 65536 (length line)) ≡ b
           → (gs : List Frame) × IsOpen (seen_in text earlier ++ seen (marked v) ∷ []) gs
       by_length h true l = search (rules, long_says, fault-marked)
       by_length h false l = (
         frames_after (role_of (directive_of line)) (top_used fs) (directive_chooses (is_defined earlier) (directive_of line)) fs,
-        directive_after h l _ refl v (sym (fault-marked v) ∙ f),
+        directive_after h l _ refl v (sym (fault-marked v j) ∙ f),
       )
 
       by_skip : (b : Bool) → is_skipped line ≡ b
@@ -298,10 +305,6 @@ module _ (need : Need) (earlier : List Marked) (text : ConfText) (n : ℕ) (fs :
   unfolding says
   says-end = refl
 
-  fault-end : fault_at need earlier end_marked ≡ option_or (end_block_fault (length fs)) (end_fault need text earlier)
-  unfolding fault_at
-  fault-end = refl
-
   well_end : IsMarkedWell earlier end_marked
   well_end = record {
     is_used = used_right (seen_in text earlier) fs (seen end_marked) o refl;
@@ -311,6 +314,9 @@ module _ (need : Need) (earlier : List Marked) (text : ConfText) (n : ℕ) (fs :
     is_expanded = plain [] tt;
     is_judged = subst (λ z. IsJudgedWell (meaning_after earlier) (expression_in z) None) (sym says-end) refl;
   }
+
+  fault-end : fault_at need earlier end_marked ≡ option_or (end_block_fault (length fs)) (end_fault need text earlier)
+  fault-end = sym (first_of_place need earlier end_marked well_end)
 
   -- this end is marked in some way
   pub ends_somehow : (x : Marked) × (x.place ≡ place_at text n None) × IsMarkedWell earlier x

@@ -31,7 +31,7 @@ use Rattle.aide_conf.specs.code.Returned.{as_lists}
 use Rattle.aide_conf.specs.Marks.{Marked}
 use Rattle.aide_conf.specs.MarkedGroups.{set_meant, meaning_after, is_too_many}
 use Rattle.aide_conf.specs.MarkedVariables.{value}
-use Rattle.aide_conf.specs.PlaceFault.{line_fault, verdict_fault}
+use Rattle.aide_conf.specs.code.PlaceFault.{line_fault, verdict_fault}
 use Rattle.aide_conf.specs.MarkedGroups.{IsJudgedWell, expression_in}
 use Rattle.aide_conf.specs.code.Variables.{values_of}
 use Rattle.aide_attr.specs.NameMap.{HasSpace, IsFull}

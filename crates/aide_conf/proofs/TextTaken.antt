@@ -12,7 +12,7 @@ use Rattle.aide_conf.specs.Blocks.{nothing}
 use Rattle.aide_conf.specs.code.Stack.{IsOpen}
 use Rattle.aide_conf.specs.Marks.{Marked}
 use Rattle.aide_conf.specs.MarkedBlocks.{seen_in}
-use Rattle.aide_conf.specs.PlaceFault.{fault_at}
+use Rattle.aide_conf.specs.FaultOrder.{fault_at}
 use Rattle.aide_conf.specs.RightMarks.{AreSound, IsMarkedWell}
 use Rattle.aide_conf.specs.code.Builder.{IsBuiltFrom, place_at, TakesOne, Takes, Stops}
 use Rattle.aide_conf.proofs.Cuts.{append_nothing}

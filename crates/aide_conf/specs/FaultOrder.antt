@@ -1,7 +1,7 @@
 -- What can be wrong with a place of a configuration, one fault at a time, and which fault of a place is reported.
-use Rattle.std.specs.Prelude.{ℕ, ◌≡◌, ◌==◌, nat_lt, nat_le, Bool, true, false, not, ◌&&◌, ◌||◌}
-use Rattle.std.specs.Prelude.{List, [], ◌∷◌, ◌++◌, length, codes, Option, Some, None, is_none}
-use Rattle.std.specs.Prelude.{unwrap_or, if◌then◌else◌, Result, Err, All}
+use Rattle.std.specs.Prelude.{ℕ, ◌==◌, nat_lt, nat_le, Bool, true, false, not, ◌&&◌, ◌||◌}
+use Rattle.std.specs.Prelude.{List, [], ◌∷◌, length, codes, find, Option, Some, None, is_none}
+use Rattle.std.specs.Prelude.{unwrap_or, if◌then◌else◌, Result, Err}
 use Rattle.aide_attr.specs.declared.set.AttrSet.{AttrSet}
 use Rattle.aide_attr.specs.declared.expression.ExprFault.{ExprFault}
 use Rattle.aide_attr.specs.declared.expression.ExprFault.TheVariants as expression
@@ -29,14 +29,13 @@ use Rattle.aide_conf.specs.declared.fault.ConfFaultKind.TheVariants.{
   NoOldDatabase,
   NoNewDatabase,
 }
-use Rattle.aide_conf.specs.declared.fault.ConfFault.{ConfFault}
 use Rattle.aide_conf.specs.declared.task.Need.{Need}
 use Rattle.aide_conf.specs.declared.task.Need.TheVariants.{Compare}
 use Rattle.aide_conf.specs.declared.option_kind.Side.{Side}
 use Rattle.aide_conf.specs.declared.option_kind.Side.TheVariants.{Old, New}
 use Rattle.aide_conf.specs.declared.option_kind.OptionKind.{OptionKind}
 use Rattle.aide_conf.specs.declared.option_kind.OptionKind.TheVariants as kinds
-use Rattle.aide_conf.specs.Cutting.{Place, strip, bytes_before, bytes_after}
+use Rattle.aide_conf.specs.Cutting.{strip, bytes_before, bytes_after}
 use Rattle.aide_conf.specs.Limits.{longest_line, longest_value, deepest}
 use Rattle.aide_conf.specs.Effect.{same, is_skipped, is_selection, is_equals, option_named}
 use Rattle.aide_conf.specs.Effect.{bool_named, is_left_out, path_of}
@@ -49,7 +48,6 @@ use Rattle.aide_conf.specs.Marks.{Marked}
 use Rattle.aide_conf.specs.MarkedGroups.{is_too_many}
 use Rattle.aide_conf.specs.MarkedVariables.{is_one_variable_more}
 use Rattle.aide_conf.specs.MarkedPaths.{path_set}
-use Rattle.aide_conf.specs.ReadResult.{IsFirstFaulty}
 
 -- ---- the order
 
@@ -272,20 +270,6 @@ place_has need earlier x (Some line) kind = line_has earlier x line kind
 unfoldable pub has_fault : Need → List Marked → Marked → ConfFaultKind → Bool
 has_fault need earlier x kind = place_has need earlier x x.place.line kind
 
--- the place has none of these faults
-abbrev pub HasNoneOf : Need → List Marked → Marked → List ConfFaultKind → Type 0
-HasNoneOf need earlier x faults = All (λ kind. has_fault need earlier x kind ≡ false) faults
-
--- the place has the fault, and none that is before it in the order
-pub record IsFirstOfPlace (need : Need) (before : List Marked) (x : Marked) (kind : ConfFaultKind)
-    : Type 0 where
-  pub earlier : List ConfFaultKind
-  pub later : List ConfFaultKind
-  pub order : fault_order ≡ earlier ++ kind ∷ later
-  pub has : has_fault need before x kind ≡ true
-  pub first : HasNoneOf need before x earlier
-
--- No place before the place of this fault has a fault. That place has this fault, and none that is before it in the
--- order.
-abbrev pub HasFaultyPlace : Need → List Place → ConfFault → Type 0
-HasFaultyPlace need ps e = IsFirstFaulty need (IsFirstOfPlace need) ps e
+-- the fault of the place that follows these: the first in the order that the place has
+unfoldable pub fault_at : Need → List Marked → Marked → Option ConfFaultKind
+fault_at need earlier x = find (has_fault need earlier x) fault_order

@@ -11,7 +11,6 @@ pub mod MarkedBlocks
 pub mod MarkedGroups
 pub mod MarkedVariables
 pub mod MarkedPaths
-pub mod PlaceFault
 pub mod RightMarks
 pub mod FaultOrder
 pub mod Settings

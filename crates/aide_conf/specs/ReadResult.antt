@@ -2,11 +2,10 @@
 use Rattle.std.specs.Prelude.{ℕ, ◌≡◌, List, [], ◌∷◌, ◌++◌, Some, map, Result, Ok, Err}
 use Rattle.aide_conf.specs.declared.task.Need.{Need}
 use Rattle.aide_conf.specs.declared.fault.ConfFault.{ConfFault}
-use Rattle.aide_conf.specs.declared.fault.ConfFaultKind.{ConfFaultKind}
 use Rattle.aide_conf.specs.declared.fault.ConfFaultKind.TheVariants.{Memory}
 use Rattle.aide_conf.specs.Cutting.{Place, places}
 use Rattle.aide_conf.specs.Marks.{Marked}
-use Rattle.aide_conf.specs.PlaceFault.{fault_at}
+use Rattle.aide_conf.specs.FaultOrder.{fault_at}
 use Rattle.aide_conf.specs.RightMarks.{AreSound, Grows, IsMarkedWell}
 use Rattle.aide_conf.specs.Settings.{Configured, AreSettings}
 
@@ -17,22 +16,18 @@ pub record IsRead (need : Need) (ps : List Place) (c : Configured) : Type 0 wher
   pub sound : AreSound need [] lines
   pub settings : AreSettings lines c
 
--- No place before the place of this fault has a fault, and that place has this fault in the sense of `IsFault`.
-pub record IsFirstFaulty (need : Need) (IsFault : List Marked → Marked → ConfFaultKind → Type 0)
-    (ps : List Place) (e : ConfFault) : Type 0 where
+-- The first fault, for which the configuration is refused: no place before its place has a fault, and it is the first
+-- in the order that its place has.
+pub record IsRefused (need : Need) (ps : List Place) (e : ConfFault) : Type 0 where
   pub lines : List Marked
   pub at : Marked
   pub rest : List Place
   pub cut : ps ≡ map (λ x. x.place) lines ++ at.place ∷ rest
   pub sound : AreSound need [] lines
   pub marked : IsMarkedWell lines at
-  pub fault : IsFault lines at e.kind
+  pub fault : fault_at need lines at ≡ Some e.kind
   pub text : e.text ≡ at.place.text
   pub line : e.line ≡ at.place.number
-
--- the first fault: the one that the configuration is refused for
-abbrev pub IsRefused : Need → List Place → ConfFault → Type 0
-IsRefused need ps e = IsFirstFaulty need (λ before x kind. fault_at need before x ≡ Some kind) ps e
 
 -- Out of memory: no place before this line has a fault, and memory may be allocated at this line.
 pub record IsStarved (need : Need) (ps : List Place) (e : ConfFault) : Type 0 where

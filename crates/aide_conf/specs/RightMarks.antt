@@ -10,7 +10,7 @@ use Rattle.aide_conf.specs.Marks.{Marked, says}
 use Rattle.aide_conf.specs.MarkedBlocks.{seen, seen_in, chooses_at}
 use Rattle.aide_conf.specs.MarkedGroups.{expression_in, meaning_after, IsJudgedWell}
 use Rattle.aide_conf.specs.MarkedVariables.{is_defined, value, text_to_expand}
-use Rattle.aide_conf.specs.PlaceFault.{fault_at}
+use Rattle.aide_conf.specs.FaultOrder.{fault_at}
 
 -- the marks of a place that follows these places are right
 pub record IsMarkedWell (earlier : List Marked) (x : Marked) : Type 0 where

@@ -6,3 +6,4 @@ pub mod Bounded
 pub mod Returned
 pub mod Stack
 pub mod Builder
+pub mod PlaceFault

@@ -20,7 +20,7 @@ ghost use Rattle.aide_conf.specs.code.Replacing.{expansion_after};
 ghost use Rattle.aide_conf.specs.Marks.{Marked};
 ghost use Rattle.aide_conf.specs.MarkedBlocks.{seen_in};
 ghost use Rattle.aide_conf.specs.MarkedVariables.{is_defined, value};
-ghost use Rattle.aide_conf.specs.PlaceFault.{line_fault, missing};
+ghost use Rattle.aide_conf.specs.code.PlaceFault.{line_fault, missing};
 ghost use Rattle.aide_conf.specs.code.Stack.{IsOpen, closed_at, divided_at, frames_after};
 ghost use Rattle.aide_conf.specs.code.Stack.{frames_of, opened, top_divided, top_used};
 ghost use Rattle.aide_conf.specs.code.Builder.{IsBuiltFrom, IsAnswered, TakesAll, TakesOne};

@@ -54,7 +54,8 @@ use Rattle.aide_conf.specs.MarkedBlocks.{seen_in}
 use Rattle.aide_conf.specs.MarkedGroups.{meaning_after, expression_in, group, group_names}
 use Rattle.aide_conf.specs.MarkedVariables.{variable, is_defined, variable_names, defined_names}
 use Rattle.aide_conf.specs.MarkedPaths.{path_set}
-use Rattle.aide_conf.specs.PlaceFault.{line_fault, fault_at, verdict_fault}
+use Rattle.aide_conf.specs.code.PlaceFault.{line_fault, verdict_fault}
+use Rattle.aide_conf.specs.FaultOrder.{fault_at}
 use Rattle.aide_conf.specs.code.Stack.{IsOpen}
 use Rattle.aide_conf.specs.code.Variables.{Values, values_of}
 use Rattle.aide_conf.specs.Settings.{AreOptions, Configured, counted, fixes}

@@ -1,6 +1,6 @@
 use Rattle.std.proofs.Common.{ap, ◌∙◌, ◌≡◌, ◌<◌, length, rules}
 use Rattle.aide_conf.specs.declared.task.Need.TheVariants.{Compare}
-use Rattle.aide_conf.specs.PlaceFault.{end_fault}
+use Rattle.aide_conf.specs.code.PlaceFault.{end_fault}
 use Rattle.aide_conf.specs.code.Stack.{frames_of}
 use Rattle.aide_conf.proofs.PlaceTaken.{block_open, ended, lacking}
 use Rattle.aide_conf.proofs.builder.SettingsBuilder.take_end.Goals as goal

@@ -1,4 +1,4 @@
--- The fault of a place, by the places before it.
+-- The fault of a place, by what its line says and the places before it.
 use Rattle.std.specs.Prelude.{ℕ, Bool, ◌||◌, ◌==◌, nat_le, List, Option, Some, None, is_none}
 use Rattle.std.specs.Prelude.{if◌then◌else◌, Result, Ok, Err}
 use Rattle.std.specs.Option.{option_or}
@@ -72,7 +72,3 @@ abbrev pub place_fault : Need → List Marked → Marked → Option (List ℕ) �
 place_fault need earlier x None =
     option_or (end_block_fault x.depth) (end_fault need x.place.text earlier)
 place_fault need earlier x (Some line) = line_fault earlier x.depth x.divided (says x) x.verdict
-
--- the fault of a place after these
-unfoldable pub fault_at : Need → List Marked → Marked → Option ConfFaultKind
-fault_at need earlier x = place_fault need earlier x x.place.line
