@@ -1,17 +1,19 @@
 -- A text that is not sound has a first fault.
-use Rattle.std.proofs.Common.{◌≡◌, ℕ, ◌+◌, ◌≤◌, List, [], ◌∷◌, ◌++◌, length, refl, sym, subst, true, false, rules}
+use Rattle.std.proofs.Common.{◌∙◌, ◌≡◌, ℕ, ◌+◌, ◌≤◌, List, [], ◌∷◌, ◌++◌, length, refl, sym, subst, true, false, rules}
 use Rattle.std.proofs.Common.{append_assoc, append-nil, Some, inl, inr}
 use Rattle.std.specs.Prelude.{nat_le, ◌⊎◌}
 use Rattle.std.proofs.lemmas.Bool.{leb-true}
 use Rattle.std.proofs.lemmas.List.Elements.{All-nil}
 use Rattle.aide_db.proofs.FirstFault.{whole_uncut}
 use Rattle.aide_entry.specs.Text.{lines}
-use Rattle.aide_db.specs.Database.{counted, IsShort, IsFront, IsDatabase, IsSound, fault_of, whole_lines, IsFirstFault, cut_kind, end_kind}
+use Rattle.aide_db.specs.Database.{counted, IsShort, IsFront, IsDatabase, IsSound, whole_lines, IsFirstFault, cut_kind, end_kind}
+use Rattle.aide_db.specs.code.LineFault.{line_fault}
 use Rattle.aide_db.specs.Parts.{IsOpen}
 use Rattle.aide_db.specs.declared.limits.Limits.{Limits}
 use Rattle.aide_entry.specs.declared.fault_kind.DbFaultKind.{DbFaultKind}
 use Rattle.aide_db.proofs.LinesLemmas.{lines_plain, ended_plain, AreLines}
 use Rattle.aide_db.proofs.Front.{open_more, open_end, open_front, open_unsound, bad_line, database_front}
+use Rattle.aide_db.proofs.FaultOrderLemmas.{first_of_open}
 
 -- some line has a fault, or the end, and none before it
 abbrev pub HasFirstFault : Limits → List ℕ → Type 0
@@ -24,7 +26,7 @@ record HasBadLine (limit : ℕ) (all : List (List ℕ)) : Type 0 where
   kind : DbFaultKind
   parts : all ≡ front ++ line ∷ after
   is_open : IsOpen limit front
-  fault : fault_of limit front line ≡ Some kind
+  fault : line_fault limit front line ≡ Some kind
 
 abbrev Walked : ℕ → List (List ℕ) → Type 0
 Walked limit all = IsOpen limit all ⊎ (IsDatabase limit all ⊎ HasBadLine limit all)
@@ -90,7 +92,7 @@ at_bad limits text le b =
         number_is = refl;
         good = open_front limits.line b.front le plain b.is_open;
         bad = bad_line limits.line b.front b.line b.kind b.is_open b.fault;
-        kind_is = b.fault;
+        kind_is = sym (first_of_open limits.line b.front b.line b.is_open) ∙ b.fault;
       }),
     )
 

@@ -30,7 +30,7 @@ unfolding has_fault kind_of kind_of_field fields
 spec_first_lacks = refl
 
 spec_first_told : fault_of 65536 [] (codes "@@db_spec size") ≡ Some NoBegin
-unfolding fault_of kind_of kind_of_field fields
+unfolding fault_of fault_order field_faults has_fault kind_of kind_of_field fields
 spec_first_told = refl
 
 -- a bad time under the second column and a bad number under the third
@@ -51,8 +51,8 @@ unfolding has_fault kind_of kind_of_field fields column_named attr_of_column row
 time_no_number = refl
 
 first_column_told : fault_of 65536 before (codes "/c 1x y") ≡ Some (BadTime 2)
-unfolding fault_of kind_of kind_of_field fields column_named attr_of_column row_of row is_path percent_encoding_on_literals path_cmp
-    time_of number_of natural_of
+unfolding fault_of fault_order field_faults has_fault kind_of kind_of_field fields column_named attr_of_column row_of row is_path
+    percent_encoding_on_literals path_cmp time_of number_of natural_of
 first_column_told = refl
 
 -- an entry out of path order with a bad number, and with a field too few
@@ -61,9 +61,10 @@ unfolding has_fault kind_of kind_of_field fields column_named attr_of_column row
 order_bad = refl
 
 order_told : fault_of 65536 before (codes "/a 1 y") ≡ Some OutOfOrder
-unfolding fault_of kind_of kind_of_field fields column_named attr_of_column row_of row is_path percent_encoding_on_literals path_cmp
+unfolding fault_of fault_order field_faults has_fault kind_of kind_of_field fields column_named attr_of_column row_of row is_path
+    percent_encoding_on_literals path_cmp
 order_told = refl
 
 count_told : fault_of 65536 before (codes "/a y") ≡ Some FieldCount
-unfolding fault_of kind_of kind_of_field fields column_named attr_of_column row_of row
+unfolding fault_of fault_order field_faults has_fault kind_of kind_of_field fields column_named attr_of_column row_of row
 count_told = refl

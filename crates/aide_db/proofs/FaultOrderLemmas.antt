@@ -15,7 +15,8 @@ use Rattle.aide_entry.specs.Fields.{columns_of, are_columns, most_columns}
 use Rattle.aide_entry.specs.Values.{is_field, fault_of_form}
 use Rattle.aide_entry.specs.Entry.{has_form, is_before, fault_of_column, first_bad, first_bad_from}
 use Rattle.aide_entry.specs.EntryLines.{IsEntryLine}
-use Rattle.aide_db.specs.Database.{counted, fault_of, fault_after}
+use Rattle.aide_db.specs.Database.{counted, fault_of}
+use Rattle.aide_db.specs.code.LineFault.{line_fault, fault_after}
 use Rattle.aide_db.specs.FaultOrder.{fault_order, field_faults, faults_of_column, is_kind, is_a, have_a, columns_named}
 use Rattle.aide_db.specs.FaultOrder.{is_number_form, is_time_form, is_digest_form, is_of_numbers, is_of_form, is_wrong}
 use Rattle.aide_db.specs.FaultOrder.{lacks_begin, is_unexpected, names_bad_columns, lacks_spec, has_other_count}
@@ -265,29 +266,13 @@ has_before_end : (limit : ℕ) (before : List (List ℕ)) (l : List ℕ) → lis
 unfolding has_fault
 has_before_end limit before l e kind = rw e refl
 
-pub has_after_end : (limit : ℕ) (before : List (List ℕ)) (l : List ℕ) → list_any is_end before ≡ true → (kind : DbFaultKind)
-    → has_fault limit before l kind ≡ false
-unfolding has_fault
-has_after_end limit before l e kind = rw e refl
-
 -- the fault of a line after lines without an end line
 pub first_of_open : (limit : ℕ) (before : List (List ℕ)) (l : List ℕ) → IsOpen limit before
-    → fault_of limit before l ≡ find (has_fault limit before l) fault_order
-unfolding fault_of
+    → line_fault limit before l ≡ fault_of limit before l
+unfolding line_fault fault_of
 first_of_open limit before l o =
     rw o.no_end
     (ap (cond (is_too_long limit l) (Some LineTooLong))
     (told_by_kind limit before l (kind_of l) o.part refl (is_kind Other (kind_of l)) refl)
     ∙ (sym (wrong_first limit before l)
     ∙ sym (agree (has_fault limit before l) (is_wrong limit before l) (has_before_end limit before l o.no_end) fault_order)))
-
-nothing_passes : {X : Type 0} (p : X → Bool) → ((x : X) → p x ≡ false) → (xs : List X) → find p xs ≡ None
-nothing_passes p h [] = refl
-nothing_passes p h (x ∷ xs) = rw (h x, nothing_passes p h xs) refl
-
--- a line after an end line has none
-pub none_after_end : (limit : ℕ) (before : List (List ℕ)) (l : List ℕ) → list_any is_end before ≡ true
-    → fault_of limit before l ≡ find (has_fault limit before l) fault_order
-unfolding fault_of
-none_after_end limit before l ends =
-    rw ends (sym (nothing_passes (has_fault limit before l) (has_after_end limit before l ends) fault_order))

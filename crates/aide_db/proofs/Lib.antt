@@ -17,7 +17,6 @@ pub mod TakesLemmas
 pub mod FirstFault
 pub mod FaultLaws
 pub mod FaultOrderLemmas
-pub mod FaultOrderTexts
 pub mod FaultExists
 pub mod Laws
 pub mod KeepingLemmas

@@ -1,6 +1,6 @@
 -- What can be wrong with a line of a database, one fault at a time, and which fault of a line is reported.
-use Rattle.std.specs.Prelude.{ℕ, ◌≡◌, ◌==◌, nat_lt, Bool, true, false, not, ◌&&◌, ◌||◌, List, []}
-use Rattle.std.specs.Prelude.{◌∷◌, ◌++◌, ◌+◌, length, find, unwrap_or, flat_map, zip, All}
+use Rattle.std.specs.Prelude.{ℕ, ◌==◌, nat_lt, Bool, true, false, not, ◌&&◌, ◌||◌, List, []}
+use Rattle.std.specs.Prelude.{◌∷◌, length, find, unwrap_or, flat_map, zip}
 use Rattle.std.specs.List.{list_any, range_with_len, enumerate_from}
 use Rattle.aide_attr.specs.Attr.{form_of}
 use Rattle.aide_attr.specs.declared.form.Form.{Form}
@@ -9,12 +9,10 @@ use Rattle.aide_entry.specs.Text.{fields}
 use Rattle.aide_entry.specs.Lines.{kind_of, is_end, counts}
 use Rattle.aide_entry.specs.Fields.{columns_of, are_columns, most_columns}
 use Rattle.aide_entry.specs.Entry.{path_of, is_path, is_before, has_form}
-use Rattle.aide_db.specs.Database.{whole_lines, IsFront}
 use Rattle.aide_entry.specs.declared.column.Column.{Column}
 use Rattle.aide_entry.specs.declared.column.Column.TheVariants.{Bits, Of}
 use Rattle.aide_entry.specs.declared.line.LineKind.{LineKind}
 use Rattle.aide_entry.specs.declared.line.LineKind.TheVariants as kinds
-use Rattle.aide_db.specs.declared.limits.Limits.{Limits}
 use Rattle.aide_entry.specs.declared.fault_kind.DbFaultKind.{DbFaultKind}
 use Rattle.aide_entry.specs.declared.fault_kind.DbFaultKind.TheVariants.{LineTooLong, NoBegin}
 use Rattle.aide_entry.specs.declared.fault_kind.DbFaultKind.TheVariants.{BadDirective, BadSpec}
@@ -167,28 +165,3 @@ is_wrong _ _ _ _ = false
 -- the line has the fault; a line after an end line has none
 unfoldable pub has_fault : ℕ → List (List ℕ) → List ℕ → DbFaultKind → Bool
 has_fault limit before line kind = not (list_any is_end before) && is_wrong limit before line kind
-
--- the line has none of these faults
-abbrev pub HasNoneOf : ℕ → List (List ℕ) → List ℕ → List DbFaultKind → Type 0
-HasNoneOf limit before line faults = All (λ kind. has_fault limit before line kind ≡ false) faults
-
--- the line has the fault, and none that is before it in the order
-pub record IsFirstOfLine (limit : ℕ) (before : List (List ℕ)) (line : List ℕ) (kind : DbFaultKind)
-    : Type 0 where
-  pub earlier : List DbFaultKind
-  pub later : List DbFaultKind
-  pub order : fault_order ≡ earlier ++ kind ∷ later
-  pub has : has_fault limit before line kind ≡ true
-  pub first : HasNoneOf limit before line earlier
-
--- The lines before the line of this number are the first lines of some database. That line has this fault, and none
--- that is before it in the order.
-pub record HasFaultyLine (limits : Limits) (text : List ℕ) (number : ℕ) (kind : DbFaultKind)
-    : Type 0 where
-  pub before : List (List ℕ)
-  pub line : List ℕ
-  pub after : List (List ℕ)
-  pub parts : whole_lines limits text ≡ before ++ line ∷ after
-  pub number_is : number ≡ length before + 1
-  pub good : IsFront limits.line before
-  pub fault : IsFirstOfLine limits.line before line kind

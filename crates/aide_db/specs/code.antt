@@ -7,3 +7,4 @@ pub mod Piece
 pub mod Accept
 pub mod ChunkReaderView
 pub mod Keeping
+pub mod LineFault
