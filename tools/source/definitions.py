@@ -19,6 +19,8 @@ WORD = re.compile(r"[A-Za-z_][\w']*")
 DEFINED = re.compile(
     r"^(?:abbrev |unfoldable |pub |private )*(?:record |data )?([A-Za-z_][\w']*)\b"
 )
+# What stands over definitions that use each other.
+MUTUAL = ("mutual", "abbrev mutual")
 CONSTRUCTOR = re.compile(r"^  ([A-Za-z_][\w']*) :")
 
 
@@ -78,10 +80,10 @@ class File:
             if not line.strip():
                 sentence = []
                 continue
-            if line.startswith("module "):
-                module, depth, sentence = line, 2, []
+            if line.startswith("module ") or line in MUTUAL:
+                module, depth, sentence = "" if line in MUTUAL else line, 2, []
                 continue
-            if module and not line.startswith("  "):
+            if depth and not line.startswith("  "):
                 module, depth = "", 0
             line = line[depth:]
             if line.startswith("--"):
