@@ -4,6 +4,7 @@ use Rattle.std.proofs.Common.{append_assoc, rules}
 use Rattle.std.proofs.lemmas.List.{append-nil}
 use Rattle.std.specs.List.{filter}
 use Rattle.aide_json.specs.Object.{behind, comma, joined}
+use Rattle.aide_json.specs.Value.{Member, Value, print, print_member, texts_of, value_texts, values_of}
 use Rattle.aide_json.specs.code.Items.{joined_on, items_from, next_item}
 
 pub item_wanted : (wanted first : Bool) (text : List ℕ) → wanted ≡ true → comma first ++ text ≡ next_item wanted first text
@@ -48,6 +49,12 @@ module _ {X : Type 0} (wants : X → Bool) (text : X → List ℕ) where
 pub behind_one : (text : List ℕ) → 44 ∷ text ≡ behind (text ∷ [])
 behind_one text = sym (append-nil (44 ∷ text))
 
-pub behind_append : (xs ys : List (List ℕ)) → behind (xs ++ ys) ≡ behind xs ++ behind ys
-behind_append [] ys = refl
-behind_append (x ∷ xs) ys = ap (λ l. (44 ∷ x) ++ l) (behind_append xs ys) ∙ sym (append_assoc (44 ∷ x) (behind xs) (behind ys))
+pub behind_both : (xs ys : List Member) → behind (texts_of (xs ++ ys)) ≡ behind (texts_of xs) ++ behind (texts_of ys)
+behind_both [] ys = refl
+behind_both (x ∷ xs) ys =
+    ap (λ l. (44 ∷ print_member x) ++ l) (behind_both xs ys)
+    ∙ sym (append_assoc (44 ∷ print_member x) (behind (texts_of xs)) (behind (texts_of ys)))
+
+pub texts_mapped : {X : Type 0} (of : X → Value) (xs : List X) → map (λ x. print (of x)) xs ≡ value_texts (values_of (map of xs))
+texts_mapped of [] = refl
+texts_mapped of (x ∷ xs) = ap (λ l. print (of x) ∷ l) (texts_mapped of xs)

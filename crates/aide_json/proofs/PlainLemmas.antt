@@ -5,9 +5,9 @@ use Rattle.std.proofs.lemmas.Bool.{and_parts, and_from}
 use Rattle.std.proofs.lemmas.Bool.Decides.{nat_tests}
 use Rattle.aide_json.proofs.EscapesLemmas.{text_after-IsUtf8}
 use Rattle.aide_json.proofs.FollowsLemmas.{accepts-IsUtf8}
-use Rattle.aide_json.proofs.MemberLemmas.{as_string}
+use Rattle.aide_json.proofs.MemberLemmas.{as_text}
 use Rattle.aide_json.specs.Json.{quoted}
-use Rattle.aide_json.specs.Member.{member, name_colon, text_member}
+use Rattle.aide_json.specs.Value.{name_colon, print_member, text_member, word}
 use Rattle.aide_json.specs.code.Escaping.{text_after, Nothing}
 use Rattle.aide_json.specs.code.Follows.{accepts, is_closed, may_follow}
 use Rattle.aide_json.specs.code.Plain.{is_plain}
@@ -40,8 +40,9 @@ plain_bytes (c ∷ cs) plain =
     let parts = and_parts (is_plain c) (list_all is_plain cs) plain in
     plain_byte c cs parts.0 ∙ ap (λ l. c ∷ l) (plain_bytes cs parts.1)
 
-pub as_plain : (name text : List ℕ) → list_all is_plain text ≡ true → member name (quoted text) ≡ text_member name text
-unfolding member quoted
+pub as_plain : (name text : List ℕ) → list_all is_plain text ≡ true
+    → print_member (name, word text) ≡ print_member (text_member name text)
+unfolding quoted
 as_plain name text plain =
     let u = plain_utf8 text plain in
-    ap (λ t. name_colon name ++ 34 ∷ (t ++ 34 ∷ [])) (sym (plain_bytes text plain) ∙ text_after-IsUtf8 text u) ∙ as_string name text u
+    ap (λ t. name_colon name ++ 34 ∷ (t ++ 34 ∷ [])) (sym (plain_bytes text plain) ∙ text_after-IsUtf8 text u) ∙ as_text name text u

@@ -1,7 +1,8 @@
 //! Writes numbers.
 ghost use Rattle.std.specs.Prelude.{◌≡◌, ◌≤◌, decimal, length, nat_abs};
 ghost use Rattle.std.specs.Fmt.{signed_decimal};
-ghost use Rattle.aide_json.specs.Number.{is_exact, number_as, json_integer, json_count};
+ghost use Rattle.aide_json.specs.Number.{is_exact, number_as, integer, count};
+ghost use Rattle.aide_json.specs.Value.{print};
 ghost use Rattle.aide_text.specs.PenSheet.{on_sheet};
 ghost use Rattle.aide_text.specs.Sheet.{Wrote};
 
@@ -18,7 +19,7 @@ fn is_exact(size: u128) -> bool
 
 /// Writes a number by its digits: as it is, or as a string if not each reader would keep it.
 fn put_digits<W: Sink>(out: &mut W, pen: &mut Pen, size: u128, digits: &[u8])
-    ensures { Wrote (number_as size digits.now) (on_sheet W.Sink out.old pen.old)
+    ensures { Wrote (print (number_as size digits.now)) (on_sheet W.Sink out.old pen.old)
         (on_sheet W.Sink out.new pen.new) }
 {
     if is_exact(size) {
@@ -30,7 +31,7 @@ fn put_digits<W: Sink>(out: &mut W, pen: &mut Pen, size: u128, digits: &[u8])
 
 /// Writes an integer.
 pub(crate) fn put_integer<W: Sink>(out: &mut W, pen: &mut Pen, number: i128)
-    ensures { Wrote (json_integer number) (on_sheet W.Sink out.old pen.old)
+    ensures { Wrote (print (integer number)) (on_sheet W.Sink out.old pen.old)
         (on_sheet W.Sink out.new pen.new) }
 {
     let mut buffer = Buffer::new();
@@ -44,7 +45,7 @@ pub(crate) fn put_integer<W: Sink>(out: &mut W, pen: &mut Pen, number: i128)
 
 /// Writes a count. Above 2^53 - 1 it is a string of the digits (RFC 7493 section 2.2).
 pub fn put_count<W: Sink>(out: &mut W, pen: &mut Pen, number: u128)
-    ensures { Wrote (json_count number) (on_sheet W.Sink out.old pen.old)
+    ensures { Wrote (print (count number)) (on_sheet W.Sink out.old pen.old)
         (on_sheet W.Sink out.new pen.new) }
 {
     let mut buffer = Buffer::new();

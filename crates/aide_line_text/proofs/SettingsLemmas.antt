@@ -1,15 +1,14 @@
 -- The line of a configuration in the order in which it is written.
 use Rattle.std.proofs.Common.{◌≡◌, ℕ, List, [], ◌∷◌, ◌++◌, Bool, true, false, refl, arith, append_assoc}
 use Rattle.std.specs.Prelude.{◌&&◌, not}
-use Rattle.aide_json.proofs.ItemLemmas.{behind_append}
 use Rattle.aide_json.specs.Object.{joined, line, object}
 
-pub settings_parts : (f o n l s t : List ℕ) (switches lists : List (List ℕ))
+pub settings_parts : (f o n l s t u v a b c d : List ℕ)
     → (123 ∷ []) ++ (f ++ ((44 ∷ []) ++ (o ++ ((44 ∷ []) ++ (n ++ ((44 ∷ []) ++ (l ++ ((44 ∷ [])
-    ++ (joined (s ∷ switches) ++ ((44 ∷ []) ++ (joined (t ∷ lists) ++ (125 ∷ 10 ∷ []))))))))))))
-    ≡ line (f ∷ o ∷ n ∷ l ∷ ((s ∷ switches) ++ (t ∷ lists)))
+    ++ (joined (s ∷ t ∷ u ∷ v ∷ []) ++ ((44 ∷ []) ++ (joined (a ∷ b ∷ c ∷ d ∷ []) ++ (125 ∷ 10 ∷ []))))))))))))
+    ≡ line (f ∷ o ∷ n ∷ l ∷ s ∷ t ∷ u ∷ v ∷ a ∷ b ∷ c ∷ d ∷ [])
 unfolding line object
-settings_parts f o n l s t switches lists = grind (arith, append_assoc, behind_append switches (t ∷ lists))
+settings_parts f o n l s t u v a b c d = grind (arith, append_assoc)
 
 -- behind one that is wanted none is the first, and behind one that is not wanted the first is still to come
 pub behind_wanted : (first wanted : Bool) → wanted ≡ true → false ≡ (first && not wanted)

@@ -3,14 +3,13 @@ ghost use Rattle.std.specs.Prelude.{◌≡◌, ◌≤◌, Option, None, Some, le
 ghost use Rattle.aide_attr.specs.declared.attr.Attr.{Attr as AnyAttr};
 ghost use Rattle.aide_entry.specs.Attributes.{link_in, digest_in, opaque_in};
 ghost use Rattle.aide_entry.specs.View.{entry_in};
-ghost use Rattle.aide_json.specs.Json.{hex_string, quoted};
-ghost use Rattle.aide_json.specs.Member.{member, text_member};
-ghost use Rattle.aide_json.specs.Number.{json_integer};
-ghost use Rattle.aide_line_text.specs.Attribute.{attribute_member, link_member, type_string};
+ghost use Rattle.aide_json.specs.Number.{integer};
+ghost use Rattle.aide_json.specs.Value.{base16, print_member, text_member, text_or_null, word};
+ghost use Rattle.aide_line_text.specs.code.Parts.{attribute_text};
 ghost use Rattle.aide_text.specs.PenSheet.{on_sheet};
 ghost use Rattle.aide_text.specs.ReadyRest.{ready_rest};
 ghost use Rattle.aide_text.specs.Sheet.{Wrote};
-ghost use Rattle.aide_text.specs.ValueText.{mode_text, option_text};
+ghost use Rattle.aide_text.specs.ValueText.{mode_text, option_text, type_text};
 
 use aide_attr::{Attr, FileType, Form};
 use aide_entry::View;
@@ -21,7 +20,7 @@ use aide_text::{DecodedFeed, Pen, Ready, Sink, SliceFeed, kind_text, mode_text};
 
 /// Writes a member whose value is a short string that needs no escape.
 fn put_ready<W: Sink>(out: &mut W, pen: &mut Pen, name: &[u8], text: Ready)
-    ensures { Wrote (member name.now (quoted (ready_rest text)))
+    ensures { Wrote (print_member (name.now, word (ready_rest text)))
         (on_sheet W.Sink out.old pen.old) (on_sheet W.Sink out.new pen.new) }
 {
     put_word_member(out, pen, name, text.bytes());
@@ -29,14 +28,14 @@ fn put_ready<W: Sink>(out: &mut W, pen: &mut Pen, name: &[u8], text: Ready)
 
 /// Writes the member of a type of file.
 pub(crate) fn put_type<W: Sink>(out: &mut W, pen: &mut Pen, name: &[u8], kind: FileType)
-    ensures { Wrote (member name.now (type_string kind)) (on_sheet W.Sink out.old pen.old)
+    ensures { Wrote (print_member (name.now, word (type_text kind))) (on_sheet W.Sink out.old pen.old)
         (on_sheet W.Sink out.new pen.new) }
 {
     put_ready(out, pen, name, kind_text(Some(kind)));
 }
 
 fn put_kind<W: Sink>(out: &mut W, pen: &mut Pen, name: &[u8], kind: Option<FileType>)
-    ensures { Wrote (option_text (λ kind. member name.now (type_string kind)) kind)
+    ensures { Wrote (option_text (λ kind. print_member (name.now, word (type_text kind))) kind)
         (on_sheet W.Sink out.old pen.old) (on_sheet W.Sink out.new pen.new) }
 {
     if let Some(kind) = kind {
@@ -45,7 +44,7 @@ fn put_kind<W: Sink>(out: &mut W, pen: &mut Pen, name: &[u8], kind: Option<FileT
 }
 
 fn put_mode<W: Sink>(out: &mut W, pen: &mut Pen, name: &[u8], mode: Option<i128>)
-    ensures { Wrote (option_text (λ n. member name.now (quoted (mode_text n))) mode)
+    ensures { Wrote (option_text (λ n. print_member (name.now, word (mode_text n))) mode)
         (on_sheet W.Sink out.old pen.old) (on_sheet W.Sink out.new pen.new) }
 {
     if let Some(mode) = mode {
@@ -54,7 +53,7 @@ fn put_mode<W: Sink>(out: &mut W, pen: &mut Pen, name: &[u8], mode: Option<i128>
 }
 
 fn put_number<W: Sink>(out: &mut W, pen: &mut Pen, name: &[u8], number: Option<i128>)
-    ensures { Wrote (option_text (λ n. member name.now (json_integer n)) number)
+    ensures { Wrote (option_text (λ n. print_member (name.now, integer n)) number)
         (on_sheet W.Sink out.old pen.old) (on_sheet W.Sink out.new pen.new) }
 {
     if let Some(number) = number {
@@ -63,7 +62,7 @@ fn put_number<W: Sink>(out: &mut W, pen: &mut Pen, name: &[u8], number: Option<i
 }
 
 fn put_link<W: Sink>(out: &mut W, pen: &mut Pen, name: &[u8], view: &View<'_>)
-    ensures { Wrote (option_text (link_member name.now)
+    ensures { Wrote (option_text (λ target. print_member (text_or_null name.now target))
         (link_in ((entry_in view.now).1 AnyAttr.Lname)))
         (on_sheet W.Sink out.old pen.old) (on_sheet W.Sink out.new pen.new) }
 {
@@ -75,7 +74,7 @@ fn put_link<W: Sink>(out: &mut W, pen: &mut Pen, name: &[u8], view: &View<'_>)
 }
 
 fn put_digest<W: Sink>(out: &mut W, pen: &mut Pen, name: &[u8], view: &View<'_>, attr: Attr)
-    ensures { Wrote (option_text (λ bytes. member name.now (hex_string bytes))
+    ensures { Wrote (option_text (λ bytes. print_member (name.now, base16 bytes))
         (digest_in ((entry_in view.now).1 attr)))
         (on_sheet W.Sink out.old pen.old) (on_sheet W.Sink out.new pen.new) }
 {
@@ -86,7 +85,8 @@ fn put_digest<W: Sink>(out: &mut W, pen: &mut Pen, name: &[u8], view: &View<'_>,
 }
 
 fn put_field<W: Sink>(out: &mut W, pen: &mut Pen, name: &[u8], view: &View<'_>, attr: Attr)
-    ensures { Wrote (option_text (text_member name.now) (opaque_in ((entry_in view.now).1 attr)))
+    ensures { Wrote (option_text (λ bytes. print_member (text_member name.now bytes))
+        (opaque_in ((entry_in view.now).1 attr)))
         (on_sheet W.Sink out.old pen.old) (on_sheet W.Sink out.new pen.new) }
 {
     if let Some(bytes) = view.field(attr) {
@@ -96,7 +96,7 @@ fn put_field<W: Sink>(out: &mut W, pen: &mut Pen, name: &[u8], view: &View<'_>, 
 
 /// Writes the member of an attribute, and nothing if the entry lacks it.
 pub(crate) fn put_attribute<W: Sink>(out: &mut W, pen: &mut Pen, view: &View<'_>, attr: Attr)
-    ensures { Wrote (attribute_member (entry_in view.now).1 attr)
+    ensures { Wrote (attribute_text (entry_in view.now).1 attr)
         (on_sheet W.Sink out.old pen.old) (on_sheet W.Sink out.new pen.new) }
 {
     let name = attr.detail_name();

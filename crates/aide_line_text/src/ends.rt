@@ -1,5 +1,6 @@
 //! Writes the numbers of the last line.
 ghost use Rattle.aide_json.specs.Object.{joined};
+ghost use Rattle.aide_json.specs.Value.{texts_of};
 ghost use Rattle.aide_line_text.specs.Ends.{account_members, count_members};
 ghost use Rattle.aide_text.specs.PenSheet.{on_sheet};
 ghost use Rattle.aide_text.specs.Sheet.{Wrote};
@@ -10,7 +11,7 @@ use aide_text::{Pen, Sink, put};
 
 /// Writes the numbers of entries.
 pub(crate) fn put_counts<W: Sink>(out: &mut W, pen: &mut Pen, counts: &LineCounts)
-    ensures { Wrote (joined (count_members counts.now))
+    ensures { Wrote (joined (texts_of (count_members counts.now)))
         (on_sheet W.Sink out.old pen.old) (on_sheet W.Sink out.new pen.new) }
 {
     put_count_member(out, pen, b"total", counts.total as u128);
@@ -25,7 +26,7 @@ pub(crate) fn put_counts<W: Sink>(out: &mut W, pen: &mut Pen, counts: &LineCount
 /// Writes for how many lines the old entries account, for how many a trusted machine, for how many a list, and for how
 /// many nothing.
 pub(crate) fn put_accounts<W: Sink>(out: &mut W, pen: &mut Pen, counts: &LineCounts)
-    ensures { Wrote (joined (account_members counts.now))
+    ensures { Wrote (joined (texts_of (account_members counts.now)))
         (on_sheet W.Sink out.old pen.old) (on_sheet W.Sink out.new pen.new) }
 {
     put_count_member(out, pen, b"same_as_old", counts.same_as_old as u128);

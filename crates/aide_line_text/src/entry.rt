@@ -3,10 +3,10 @@ ghost use Rattle.std.specs.Prelude.{◌≡◌, ◌∷◌, ◌++◌, [], Some, co
 ghost use Rattle.aide_agreement.specs.ChangeView.{found_in};
 ghost use Rattle.aide_attr.specs.Set.{has};
 ghost use Rattle.aide_entry.specs.View.{entry_in};
-ghost use Rattle.aide_json.specs.Object.{behind};
-ghost use Rattle.aide_line_text.specs.Entry.{account_member, account_members, entry_line};
-ghost use Rattle.aide_line_text.specs.Entry.{entry_members, type_members};
-ghost use Rattle.aide_line_text.specs.code.Parts.{entries_behind, entry_head};
+ghost use Rattle.aide_json.specs.Value.{print_member};
+ghost use Rattle.aide_line_text.specs.Entry.{account_member, entry_line, entry_member};
+ghost use Rattle.aide_line_text.specs.Entry.{type_member};
+ghost use Rattle.aide_line_text.specs.code.Parts.{any_behind, entries_behind, entry_head};
 ghost use Rattle.aide_text.specs.PenSheet.{on_sheet};
 ghost use Rattle.aide_text.specs.Sheet.{Wrote};
 
@@ -40,7 +40,7 @@ fn put_head<W: Sink, B: Feed + Copy>(
 
 /// Writes what accounts for the change.
 fn put_account<W: Sink>(out: &mut W, pen: &mut Pen, account: Account)
-    ensures { Wrote (account_member account)
+    ensures { Wrote (print_member (account_member account))
         (on_sheet W.Sink out.old pen.old) (on_sheet W.Sink out.new pen.new) }
 {
     match account {
@@ -51,7 +51,7 @@ fn put_account<W: Sink>(out: &mut W, pen: &mut Pen, account: Account)
 }
 
 fn put_account_behind<W: Sink>(out: &mut W, pen: &mut Pen, account: Option<Account>)
-    ensures { Wrote (behind (account_members account))
+    ensures { Wrote (any_behind account_member account)
         (on_sheet W.Sink out.old pen.old) (on_sheet W.Sink out.new pen.new) }
 {
     if let Some(account) = account {
@@ -61,7 +61,7 @@ fn put_account_behind<W: Sink>(out: &mut W, pen: &mut Pen, account: Option<Accou
 }
 
 fn put_type_behind<W: Sink>(out: &mut W, pen: &mut Pen, kind: Option<FileType>)
-    ensures { Wrote (behind (type_members kind))
+    ensures { Wrote (any_behind type_member kind)
         (on_sheet W.Sink out.old pen.old) (on_sheet W.Sink out.new pen.new) }
 {
     if let Some(kind) = kind {
@@ -77,7 +77,7 @@ fn put_entry_behind<W: Sink>(
     view: &View<'_>,
     shown: AttrSet,
 )
-    ensures { Wrote (behind (entry_members name.now (has shown) (Some (entry_in view.now).1)))
+    ensures { Wrote (any_behind (entry_member name.now (has shown)) (Some (entry_in view.now).1))
         (on_sheet W.Sink out.old pen.old) (on_sheet W.Sink out.new pen.new) }
 {
     put(out, pen, b",");

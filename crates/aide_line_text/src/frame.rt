@@ -1,6 +1,6 @@
 //! Writes the first and the last line of lines that are written while the databases are read.
 ghost use Rattle.std.specs.Prelude.{◌∷◌, codes};
-ghost use Rattle.aide_json.specs.Member.{member, text_member};
+ghost use Rattle.aide_json.specs.Value.{print, print_member, text_member};
 ghost use Rattle.aide_line_text.specs.Frame.{closing_line, list_member};
 ghost use Rattle.aide_line_text.specs.Frame.{opening_line, read_object};
 ghost use Rattle.aide_line_text.specs.ReadView.{facts_read};
@@ -44,7 +44,7 @@ pub struct ReadFour<'a> {
 
 /// Writes what is known of one database at its end.
 fn put_read<W: Sink>(out: &mut W, pen: &mut Pen, read: &Read<'_>)
-    ensures { Wrote (read_object (facts_read read.now))
+    ensures { Wrote (print (read_object (facts_read read.now)))
         (on_sheet W.Sink out.old pen.old) (on_sheet W.Sink out.new pen.new) }
 {
     let digest = read.digest;
@@ -58,7 +58,7 @@ fn put_read<W: Sink>(out: &mut W, pen: &mut Pen, read: &Read<'_>)
 
 /// Writes a path with this name, after another member.
 fn put_path_behind<W: Sink>(out: &mut W, pen: &mut Pen, name: &[u8], path: &[u8])
-    ensures { Wrote (44 ∷ text_member name.now path.now)
+    ensures { Wrote (44 ∷ print_member (text_member name.now path.now))
         (on_sheet W.Sink out.old pen.old) (on_sheet W.Sink out.new pen.new) }
 {
     put(out, pen, b",");
@@ -88,7 +88,7 @@ pub fn put_opening_line<W: Sink>(
 
 /// Writes what is known of a database with this name, after another member.
 fn put_read_behind<W: Sink>(out: &mut W, pen: &mut Pen, name: &[u8], read: &Read<'_>)
-    ensures { Wrote (44 ∷ member name.now (read_object (facts_read read.now)))
+    ensures { Wrote (44 ∷ print_member (name.now, read_object (facts_read read.now)))
         (on_sheet W.Sink out.old pen.old) (on_sheet W.Sink out.new pen.new) }
 {
     put(out, pen, b",");
@@ -98,7 +98,7 @@ fn put_read_behind<W: Sink>(out: &mut W, pen: &mut Pen, name: &[u8], read: &Read
 
 /// Writes the SHA-256 of a list.
 fn put_list<W: Sink>(out: &mut W, pen: &mut Pen, digest: &[u8; 32])
-    ensures { Wrote (list_member digest.now)
+    ensures { Wrote (print_member (list_member digest.now))
         (on_sheet W.Sink out.old pen.old) (on_sheet W.Sink out.new pen.new) }
 {
     put_name(out, pen, b"list");

@@ -1,8 +1,9 @@
 //! Writes a set of attributes as an array of their names.
 ghost use Rattle.std.specs.Prelude.{◌≡◌, true};
 ghost use Rattle.aide_attr.specs.Set.{has};
+ghost use Rattle.aide_json.specs.Value.{print};
 ghost use Rattle.aide_json.specs.code.Items.{items_from};
-ghost use Rattle.aide_line_text.specs.Settings.{attr_string, attrs_array};
+ghost use Rattle.aide_line_text.specs.Settings.{attr_word, attrs_array};
 ghost use Rattle.aide_text.specs.PenSheet.{on_sheet};
 ghost use Rattle.aide_text.specs.Sheet.{Wrote};
 
@@ -12,7 +13,7 @@ use aide_text::{Pen, Sink, put};
 
 /// Writes the names of those of these attributes that are in the set, with commas between them.
 fn put_names<W: Sink>(out: &mut W, pen: &mut Pen, set: AttrSet, attrs: &[Attr])
-    ensures { Wrote (items_from true (has set) attr_string attrs.now)
+    ensures { Wrote (items_from true (has set) (λ a. print (attr_word a)) attrs.now)
         (on_sheet W.Sink out.old pen.old) (on_sheet W.Sink out.new pen.new) }
 {
     let mut first = true;
@@ -27,7 +28,7 @@ fn put_names<W: Sink>(out: &mut W, pen: &mut Pen, set: AttrSet, attrs: &[Attr])
 
 /// Writes an array of the names of the attributes in a set, in the order of all attributes.
 pub(crate) fn put_set<W: Sink>(out: &mut W, pen: &mut Pen, set: AttrSet)
-    ensures { Wrote (attrs_array set) (on_sheet W.Sink out.old pen.old)
+    ensures { Wrote (print (attrs_array set)) (on_sheet W.Sink out.old pen.old)
         (on_sheet W.Sink out.new pen.new) }
 {
     put(out, pen, b"[");

@@ -1,6 +1,7 @@
 //! Writes what an accepted configuration says.
 ghost use Rattle.std.specs.Prelude.{◌≡◌, option_map};
 ghost use Rattle.aide_json.specs.Object.{joined};
+ghost use Rattle.aide_json.specs.Value.{texts_of};
 ghost use Rattle.aide_line_text.specs.Settings.{set_members, settings_line, switch_members};
 ghost use Rattle.aide_text.specs.PenSheet.{on_sheet};
 ghost use Rattle.aide_text.specs.Sheet.{Wrote};
@@ -13,7 +14,7 @@ use aide_text::{Pen, Sink, put};
 
 /// Writes the options that are on or off, by their names in configurations.
 fn put_switches<W: Sink>(out: &mut W, pen: &mut Pen, options: &Options)
-    ensures { Wrote (joined (switch_members options.now))
+    ensures { Wrote (joined (texts_of (switch_members options.now)))
         (on_sheet W.Sink out.old pen.old) (on_sheet W.Sink out.new pen.new) }
 {
     // All fields are named, so an option that is new there is not forgotten here.
@@ -36,7 +37,7 @@ fn put_switches<W: Sink>(out: &mut W, pen: &mut Pen, options: &Options)
 
 /// Writes the sets of attributes that are ignored or forced, by their names in configurations.
 fn put_sets<W: Sink>(out: &mut W, pen: &mut Pen, ignore: &Ignore)
-    ensures { Wrote (joined (set_members ignore.now))
+    ensures { Wrote (joined (texts_of (set_members ignore.now)))
         (on_sheet W.Sink out.old pen.old) (on_sheet W.Sink out.new pen.new) }
 {
     let Ignore {

@@ -3,7 +3,9 @@ ghost use Rattle.std.specs.Prelude.{◌≡◌, ◌&&◌, true, not};
 ghost use Rattle.aide_attr.specs.Set.{has};
 ghost use Rattle.aide_entry.specs.View.{entry_in};
 ghost use Rattle.aide_json.specs.code.Items.{items_from, next_item};
-ghost use Rattle.aide_line_text.specs.Attribute.{attribute_member, entry_object};
+ghost use Rattle.aide_json.specs.Value.{members_of, object, print};
+ghost use Rattle.aide_line_text.specs.Attribute.{attribute_members};
+ghost use Rattle.aide_line_text.specs.code.Parts.{attribute_text};
 ghost use Rattle.aide_text.specs.PenSheet.{on_sheet};
 ghost use Rattle.aide_text.specs.Sheet.{Wrote};
 
@@ -22,7 +24,7 @@ fn put_next<W: Sink>(
     wanted: bool,
     first: bool,
 )
-    ensures { Wrote (next_item wanted first (attribute_member (entry_in view.now).1 attr))
+    ensures { Wrote (next_item wanted first (attribute_text (entry_in view.now).1 attr))
         (on_sheet W.Sink out.old pen.old) (on_sheet W.Sink out.new pen.new) }
 {
     if wanted {
@@ -45,7 +47,7 @@ fn put_attributes<W: Sink>(
     set: AttrSet,
     attrs: &[Attr],
 )
-    ensures { Wrote (items_from true (has set) (attribute_member (entry_in view.now).1) attrs.now)
+    ensures { Wrote (items_from true (has set) (attribute_text (entry_in view.now).1) attrs.now)
         (on_sheet W.Sink out.old pen.old) (on_sheet W.Sink out.new pen.new) }
 {
     let mut first = true;
@@ -58,7 +60,7 @@ fn put_attributes<W: Sink>(
 
 /// Writes an object of the attributes that are shown and that the entry has.
 pub(crate) fn put_entry<W: Sink>(out: &mut W, pen: &mut Pen, view: &View<'_>, shown: AttrSet)
-    ensures { Wrote (entry_object (has shown) (entry_in view.now).1)
+    ensures { Wrote (print (object (members_of (attribute_members (has shown) (entry_in view.now).1))))
         (on_sheet W.Sink out.old pen.old) (on_sheet W.Sink out.new pen.new) }
 {
     put(out, pen, b"{");

@@ -1,6 +1,7 @@
 //! Writes the columns of a database that were skipped.
 ghost use Rattle.std.specs.Prelude.{◌≡◌, ◌≤◌, true};
-ghost use Rattle.aide_json.specs.Number.{json_count};
+ghost use Rattle.aide_json.specs.Number.{count};
+ghost use Rattle.aide_json.specs.Value.{print};
 ghost use Rattle.aide_json.specs.code.Items.{items_from, next_item};
 ghost use Rattle.aide_line_text.specs.Ends.{is_skipped, numbers, skipped_array};
 ghost use Rattle.aide_text.specs.PenSheet.{on_sheet};
@@ -21,7 +22,7 @@ fn is_skipped(columns: u64, column: u32) -> bool
 
 /// Writes the number of a column if it was skipped, after a comma if it is not the first.
 fn put_next<W: Sink>(out: &mut W, pen: &mut Pen, column: u32, skipped: bool, first: bool)
-    ensures { Wrote (next_item skipped first (json_count column))
+    ensures { Wrote (next_item skipped first (print (count column)))
         (on_sheet W.Sink out.old pen.old) (on_sheet W.Sink out.new pen.new) }
 {
     if skipped {
@@ -31,7 +32,7 @@ fn put_next<W: Sink>(out: &mut W, pen: &mut Pen, column: u32, skipped: bool, fir
 }
 
 fn put_columns<W: Sink>(out: &mut W, pen: &mut Pen, columns: u64)
-    ensures { Wrote (items_from true (is_skipped columns) json_count (numbers 1 64))
+    ensures { Wrote (items_from true (is_skipped columns) (λ n. print (count n)) (numbers 1 64))
         (on_sheet W.Sink out.old pen.old) (on_sheet W.Sink out.new pen.new) }
 {
     let mut first = true;
@@ -44,7 +45,7 @@ fn put_columns<W: Sink>(out: &mut W, pen: &mut Pen, columns: u64)
 
 /// Writes an array of the columns that were skipped. Bit c - 1 means column c.
 pub(crate) fn put_skipped<W: Sink>(out: &mut W, pen: &mut Pen, columns: u64)
-    ensures { Wrote (skipped_array columns)
+    ensures { Wrote (print (skipped_array columns))
         (on_sheet W.Sink out.old pen.old) (on_sheet W.Sink out.new pen.new) }
 {
     put(out, pen, b"[");

@@ -1,7 +1,5 @@
-use Rattle.aide_json.specs.Member.{member}
 use Rattle.aide_text.proofs.Sheets.{wrote_more}
 use Rattle.aide_line_text.proofs.frame.put_read_behind.Goals as goal
 
 pub returns : goal.returns
-unfolding member
 returns g c = wrote_more c.put.ensures (wrote_more c.put_name.ensures c.put_read.ensures)

@@ -1,12 +1,14 @@
 use Rattle.std.proofs.Common.{drop, true}
 use Rattle.aide_attr.specs.Set.{has}
+use Rattle.aide_json.specs.Value.{print}
 use Rattle.aide_json.specs.code.Items.{items_from}
-use Rattle.aide_line_text.specs.Settings.{attr_string}
+use Rattle.aide_line_text.specs.Settings.{attr_word}
 use Rattle.aide_text.specs.PenSheet.{on_sheet}
 use Rattle.aide_text.specs.Sheet.{Writing}
 use Rattle.aide_line_text.proofs.names.put_names.Given as goal
 
 abbrev pub invariant-loop-attr : goal.invariant-loop-attr
 invariant-loop-attr g l =
-    Writing (items_from true (has l.set) attr_string l.attrs) (items_from l.first (has l.set) attr_string (drop l.attr-index l.attrs))
+    Writing (items_from true (has l.set) (λ a. print (attr_word a)) l.attrs)
+    (items_from l.first (has l.set) (λ a. print (attr_word a)) (drop l.attr-index l.attrs))
     (on_sheet g.W.Sink l.fn.out l.fn.pen) (on_sheet g.W.Sink l.out l.pen)
