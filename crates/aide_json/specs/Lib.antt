@@ -1,6 +1,5 @@
 pub mod Json
-pub mod Number
-pub mod Member
 pub mod Object
 pub mod Value
+pub mod Number
 pub mod code

@@ -1,6 +1,6 @@
--- What is read of a line of bytes is of bytes: its path, and each value by the form of its attribute.
+-- What is read of a line of bytes is of bytes: its path and each value.
 use Rattle.std.proofs.Common.{◌≡◌, ◌+◌, ◌*◌, ◌%◌, ◌<◌, ◌&&◌, Bool, List, [], cond, false, if◌then◌else◌}
-use Rattle.std.proofs.Common.{length, nat_le, nat_lt, rules, true, ℕ, ℤ}
+use Rattle.std.proofs.Common.{length, nat_le, nat_lt, rules, true, ℕ}
 use Rattle.std.proofs.Common.{◌∷◌, Option, Some, None, inl, inr, arith}
 use Rattle.std.specs.Prelude.{drop, option_map, unwrap_or}
 use Rattle.std.proofs.lemmas.Bool.{cases_Bool, and_parts}
@@ -10,10 +10,9 @@ use Rattle.std.specs.List.{AllByRecursion, filter, slice_split, onto_first}
 use Rattle.percent_encoding.specs.Percent.{percent_decode, is_escape}
 use Rattle.aide_attr.specs.Attr.{form_of}
 use Rattle.aide_attr.specs.declared.attr.Attr.{Attr}
-use Rattle.aide_attr.specs.declared.file_type.FileType.{FileType}
 use Rattle.aide_attr.specs.declared.form.Form.{Form}
 use Rattle.aide_attr.specs.declared.form.Form.TheVariants.{Kind, Mode, Number, Time, Link, Digest, Opaque}
-use Rattle.aide_entry.specs.Attributes.{number_value, mode_value, type_value, digest_value}
+use Rattle.aide_entry.specs.Attributes.{Value, number_value, mode_value, type_value, digest_value}
 use Rattle.aide_entry.specs.Entry.{path_of, attributes_of, field_of, value_in}
 use Rattle.aide_entry.specs.Fields.{field_under, is_name}
 use Rattle.aide_entry.specs.Numbers.{mode_of, number_of}
@@ -23,7 +22,7 @@ use Rattle.aide_entry.specs.declared.column.Column.{Column}
 use Rattle.base64.specs.Engines.{standard}
 use Rattle.base64.specs.GeneralPurpose.{decoded_of}
 use Rattle.aide_line_laws.proofs.Base64.{base64_bytes}
-use Rattle.aide_line_laws.specs.ByteValues.{AreBytes, AreBytesIfAny, IsOfFormIfAny, AreOfForms}
+use Rattle.aide_line_laws.specs.ByteValues.{AreBytes, AreBytesIfAny, IsOfBytes, IsOfBytesIfAny, AreOfBytes}
 
 abbrev pub AreAllBytes : List (List ℕ) → Type 0
 AreAllBytes = AllByRecursion AreBytes
@@ -111,25 +110,14 @@ link_bytes : (field : List ℕ) → AreBytes field → AreBytesIfAny (link_of fi
 unfolding link_of
 link_bytes field h = search (rules, decoded_bytes, link_text_bytes)
 
-kind_form : (o : Option FileType) → IsOfFormIfAny Kind (option_map type_value o)
-kind_form None = tt
-kind_form (Some k) = tt
+-- values without a text
+plain_bytes : {X : Type 0} (of : X → Value) (found : Option X) → ((x : X) → IsOfBytes (of x)) → IsOfBytesIfAny (option_map of found)
+plain_bytes of None h = tt
+plain_bytes of (Some x) h = h x
 
-mode_form : (o : Option ℕ) → IsOfFormIfAny Mode (option_map (λ mode. mode_value (mode % 4096)) o)
-mode_form None = tt
-mode_form (Some mode) = tt
-
-number_form : (o : Option ℤ) → IsOfFormIfAny Number (option_map number_value o)
-number_form None = tt
-number_form (Some n) = tt
-
-time_form : (o : Option ℤ) → IsOfFormIfAny Time (option_map number_value o)
-time_form None = tt
-time_form (Some n) = tt
-
-digest_form : (least most : ℕ) (o : Option (List ℕ)) → AreBytesIfAny o → IsOfFormIfAny (Digest least most) (option_map digest_value o)
-digest_form least most None h = tt
-digest_form least most (Some bytes) h = h
+digest_value_bytes : (found : Option (List ℕ)) → AreBytesIfAny found → IsOfBytesIfAny (option_map digest_value found)
+digest_value_bytes None h = tt
+digest_value_bytes (Some bytes) h = h
 
 digest_bytes : (least most : ℕ) (field : List ℕ) → AreBytes field → AreBytesIfAny (digest_of least most field)
 unfolding digest_of
@@ -143,22 +131,22 @@ digest_bytes least most field h = of_length_bytes (decoded_of standard field) (b
           | false ↦ tt
         ]
 
-value_form : (form : Form) (field : List ℕ) → AreBytes field → IsOfFormIfAny form (value_of form field)
-value_form Kind field h = kind_form (type_of_mode (mode_of field))
-value_form Mode field h = mode_form (mode_of field)
-value_form Number field h = number_form (number_of field)
-value_form Time field h = time_form (time_of field)
-value_form Link field h = link_bytes field h
-value_form (Digest least most) field h = digest_form least most (digest_of least most field) (digest_bytes least most field h)
-value_form Opaque field h = search rules
+value_bytes : (form : Form) (field : List ℕ) → AreBytes field → IsOfBytesIfAny (value_of form field)
+value_bytes Kind field h = plain_bytes type_value (type_of_mode (mode_of field)) (λ k. tt)
+value_bytes Mode field h = plain_bytes (λ mode. mode_value (mode % 4096)) (mode_of field) (λ mode. tt)
+value_bytes Number field h = plain_bytes number_value (number_of field) (λ n. tt)
+value_bytes Time field h = plain_bytes number_value (time_of field) (λ n. tt)
+value_bytes Link field h = link_bytes field h
+value_bytes (Digest least most) field h = digest_value_bytes (digest_of least most field) (digest_bytes least most field h)
+value_bytes Opaque field h = search rules
 
-value_in_form : (form : Form) (field : Option (List ℕ)) → AreBytesIfAny field → IsOfFormIfAny form (value_in form field)
-value_in_form form None h = tt
-value_in_form form (Some field) h = value_form form field h
+value_in_bytes : (form : Form) (field : Option (List ℕ)) → AreBytesIfAny field → IsOfBytesIfAny (value_in form field)
+value_in_bytes form None h = tt
+value_in_bytes form (Some field) h = value_bytes form field h
 
 field_bytes : (columns : List Column) (line : List ℕ) (attr : Attr) → AreBytes line → AreBytesIfAny (field_of columns line attr)
 field_bytes columns line attr h = search (rules, under_bytes, fields_bytes)
 
 -- the attributes of a line of bytes
-pub forms_of_attributes : (columns : List Column) (line : List ℕ) → AreBytes line → AreOfForms (attributes_of columns line)
-forms_of_attributes columns line h attr = value_in_form (form_of attr) (field_of columns line attr) (field_bytes columns line attr h)
+pub bytes_of_attributes : (columns : List Column) (line : List ℕ) → AreBytes line → AreOfBytes (attributes_of columns line)
+bytes_of_attributes columns line h attr = value_in_bytes (form_of attr) (field_of columns line attr) (field_bytes columns line attr h)

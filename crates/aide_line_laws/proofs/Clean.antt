@@ -7,7 +7,8 @@ use Rattle.std.proofs.lemmas.Str.{IsUtf8-append, IsUtf8-nil, IsUtf8-encode, enco
 use Rattle.std.specs.List.{flat_map, AllByRecursion}
 use lib.Utf8.{scalar, scalars, encode, low_scalar}
 use Rattle.aide_json.specs.Json.{hex_digit, u_escape, is_hidden, json_char, json_text}
-use Rattle.aide_line_laws.proofs.Strings.{is_plain, are_plain, hex_digit_plain, hidden_char, shown_char, shown_is_plain, high_bytes}
+use Rattle.aide_line_laws.specs.Readable.{are_plain, is_plain}
+use Rattle.aide_line_laws.proofs.Strings.{hex_digit_plain, hidden_char, shown_char, shown_is_plain, high_bytes}
 
 abbrev pub AreVisible : List ℕ → Type 0
 AreVisible = AllByRecursion (λ byte. 32 ≤ byte)

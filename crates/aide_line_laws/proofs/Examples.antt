@@ -42,7 +42,8 @@ use Rattle.aide_line_text.specs.declared.account.Account.TheVariants.{LeftOut, O
 use Rattle.aide_merge.specs.Changed.{differ_by}
 use Rattle.aide_line_run.specs.Listed.{account_by}
 use Rattle.aide_line_laws.specs.OverMaps.{IsAbout, IsAccount, IsFirstLine, StayedAsOld, differ_beyond}
-use Rattle.aide_line_laws.specs.Field.{count_json}
+use Rattle.aide_json.specs.Number.{count as json_count}
+use Rattle.aide_line_laws.specs.Field.{json_of}
 use Rattle.aide_line_laws.specs.Reading.{SaysAccount}
 use Rattle.aide_line_laws.proofs.MapLaws.{account_by_is_account}
 
@@ -357,7 +358,7 @@ differ_beyond_example_added = refl
 
 -- ---- lines
 
-pub IsFirstLine_example : IsFirstLine ((codes "format", count_json 4) ∷ [])
+pub IsFirstLine_example : IsFirstLine ((codes "format", json_of (json_count 4)) ∷ [])
 IsFirstLine_example = refl
 
 pub IsAbout_example : IsAbout (codes "/a") ((codes "path", string (codes "/a")) ∷ [])

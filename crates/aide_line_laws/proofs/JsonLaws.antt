@@ -10,7 +10,8 @@ use Rattle.aide_db.specs.Database.{IsSound}
 use Rattle.aide_db.specs.Map.{database_of}
 use Rattle.aide_db.specs.declared.limits.Limits.{Limits}
 use Rattle.aide_db.specs.declared.side.Side.TheVariants.{Old, New}
-use Rattle.aide_line_text.specs.Frame.{ReadFacts}
+use Rattle.aide_json.specs.Value.{text_member}
+use Rattle.aide_line_text.specs.Frame.{ReadFacts, closing_members, opening_members}
 use Rattle.aide_line_text.specs.declared.counts.LineCounts.{LineCounts}
 use Rattle.aide_merge.specs.Asked.{Asked}
 use Rattle.aide_line_run.specs.ChangeLines.{change_line, change_lines, listed_changes, listed_line}
@@ -33,8 +34,7 @@ use Rattle.aide_line_run.specs.declared.pair_fault.PairFault.{PairFault}
 use Rattle.aide_line_run.specs.declared.pair_fault.PairFault.TheVariants.{Compared, Trusted}
 use Rattle.aide_line_laws.specs.ByteValues.{AreBytes}
 use Rattle.aide_line_laws.specs.Complete.{AreComplete, EndsWithDigests, LeavesUnfinished, digest_under}
-use Rattle.aide_line_laws.specs.Field.{Field, text_field}
-use Rattle.aide_line_laws.specs.Fields.{closing_fields_trusted, opening_fields_trusted}
+use Rattle.aide_line_laws.specs.Field.{Field, fields_of}
 use Rattle.aide_line_laws.specs.JsonLine.{AreJsonLines}
 use Rattle.aide_line_laws.specs.Reading.{text_under}
 use Rattle.aide_line_laws.specs.TextFields.{change_fields, fields_begun, fields_of_texts}
@@ -98,14 +98,14 @@ all_accounted_are_json options (each ∷ all) h =
 -- In the first line what is under each name is the path of that database.
 pub paths_are_read_back : (old_path new_path trusted_old trusted_new : List ℕ) → AreBytes old_path → AreBytes new_path
     → AreBytes trusted_old → AreBytes trusted_new
-    → (text_under (codes "old") (opening_fields_trusted old_path new_path trusted_old trusted_new) ≡ Some old_path)
-    × (text_under (codes "new") (opening_fields_trusted old_path new_path trusted_old trusted_new) ≡ Some new_path)
-    × (text_under (codes "trusted_old") (opening_fields_trusted old_path new_path trusted_old trusted_new) ≡ Some trusted_old)
-    × (text_under (codes "trusted_new") (opening_fields_trusted old_path new_path trusted_old trusted_new) ≡ Some trusted_new)
+    → (text_under (codes "old") (fields_of (opening_members old_path new_path trusted_old trusted_new)) ≡ Some old_path)
+    × (text_under (codes "new") (fields_of (opening_members old_path new_path trusted_old trusted_new)) ≡ Some new_path)
+    × (text_under (codes "trusted_old") (fields_of (opening_members old_path new_path trusted_old trusted_new)) ≡ Some trusted_old)
+    × (text_under (codes "trusted_new") (fields_of (opening_members old_path new_path trusted_old trusted_new)) ≡ Some trusted_new)
 paths_are_read_back old_path new_path trusted_old trusted_new h k l m =
-    let last = text_field (codes "trusted_new") trusted_new ∷ [] in
-    let third = text_field (codes "trusted_old") trusted_old ∷ last in
-    let second = text_field (codes "new") new_path ∷ third in (
+    let last = text_member (codes "trusted_new") trusted_new ∷ [] in
+    let third = text_member (codes "trusted_old") trusted_old ∷ last in
+    let second = text_member (codes "new") new_path ∷ third in (
       text_is_read (codes "old") old_path second h refl refl refl
           (past_text (codes "old") (codes "new") new_path third refl refl
           ∙ past_text (codes "old") (codes "trusted_old") trusted_old last refl refl
@@ -134,13 +134,13 @@ paths_are_read_back old_path new_path trusted_old trusted_new h k l m =
 pub digests_are_read_back : (old new trusted_old trusted_new : ReadFacts) (list : List ℕ) (counts : LineCounts)
     (status : ℕ)
     → AreBytes old.digest → AreBytes new.digest → AreBytes trusted_old.digest → AreBytes trusted_new.digest → AreBytes list
-    → (digest_under (codes "old") (closing_fields_trusted old new trusted_old trusted_new list counts status) ≡ Some old.digest)
-    × (digest_under (codes "new") (closing_fields_trusted old new trusted_old trusted_new list counts status) ≡ Some new.digest)
-    × (digest_under (codes "trusted_old") (closing_fields_trusted old new trusted_old trusted_new list counts status)
+    → (digest_under (codes "old") (fields_of (closing_members old new trusted_old trusted_new list counts status)) ≡ Some old.digest)
+    × (digest_under (codes "new") (fields_of (closing_members old new trusted_old trusted_new list counts status)) ≡ Some new.digest)
+    × (digest_under (codes "trusted_old") (fields_of (closing_members old new trusted_old trusted_new list counts status))
     ≡ Some trusted_old.digest)
-    × (digest_under (codes "trusted_new") (closing_fields_trusted old new trusted_old trusted_new list counts status)
+    × (digest_under (codes "trusted_new") (fields_of (closing_members old new trusted_old trusted_new list counts status))
     ≡ Some trusted_new.digest)
-    × (digest_under (codes "list") (closing_fields_trusted old new trusted_old trusted_new list counts status) ≡ Some list)
+    × (digest_under (codes "list") (fields_of (closing_members old new trusted_old trusted_new list counts status)) ≡ Some list)
 digests_are_read_back old new trusted_old trusted_new list counts status h k l m n =
     search (rules, read_in_base_16)
 
@@ -161,7 +161,7 @@ accounted_has_no_end options (each ∷ all) =
     ]
 
 opening_is_no_end : (old_path new_path trusted_old trusted_new : List ℕ)
-    → IsNoEnd (opening_fields_trusted old_path new_path trusted_old trusted_new)
+    → IsNoEnd (fields_of (opening_members old_path new_path trusted_old trusted_new))
 opening_is_no_end old_path new_path trusted_old trusted_new = search (rules, past_text)
 
 -- What goes out before the last line, whatever the four texts are, does not begin with complete lines.
@@ -171,7 +171,7 @@ pub begun_lines_are_never_complete : (wish trusted : Asked) (old new : List ℕ)
     → (whole rest : List ℕ) (all : List (List Field)) → AreJsonLines whole all → AreComplete all
     → first_line wish trusted ++ accounted_lines wish.options accounted ≡ whole ++ rest → ⊥
 begun_lines_are_never_complete wish trusted old new accounted same old_bytes new_bytes paths others =
-    let first = opening_fields_trusted wish.old_path wish.new_path trusted.old_path trusted.new_path in
+    let first = fields_of (opening_members wish.old_path wish.new_path trusted.old_path trusted.new_path) in
     never_begins (first_line wish trusted ++ accounted_lines wish.options accounted)
     (first ∷ all_accounted_fields wish.options accounted)
     (lines_both (first_line wish trusted) (accounted_lines wish.options accounted) (first ∷ [])
@@ -195,9 +195,9 @@ cut_lines_are_never_complete limits list wish trusted old new trusted_old truste
     let all = changes (database_of old) (database_of new) in
     only_all (lines_of_texts list wish trusted old new trusted_old trusted_new).text
     (fields_begun wish.options account
-    (opening_fields_trusted wish.old_path wish.new_path trusted.old_path trusted.new_path) all)
-    (closing_fields_trusted (read_of old) (read_of new) (read_of trusted_old) (read_of trusted_new) list.digest counts
-    (status_by counts))
+    (fields_of (opening_members wish.old_path wish.new_path trusted.old_path trusted.new_path)) all)
+    (fields_of (closing_members (read_of old) (read_of new) (read_of trusted_old) (read_of trusted_new) list.digest counts
+    (status_by counts)))
     (lines_are_json limits list wish trusted old new trusted_old trusted_new old_sound new_sound old_bytes new_bytes paths
     others digest) (
       opening_is_no_end wish.old_path wish.new_path trusted.old_path trusted.new_path,
@@ -275,8 +275,8 @@ module _ (limits : Limits) (list : ListRead) (p q : PairSeen) (o s : SinkSeen) (
       record {
         begun = first_line p.asked q.asked ++ change_lines p.asked.options account all;
         last = last_line list (facts_of_texts old new trusted_old trusted_new) counts;
-        fields = closing_fields_trusted (read_of old) (read_of new) (read_of trusted_old) (read_of trusted_new) list.digest
-            counts (status_by counts);
+        fields = fields_of (closing_members (read_of old) (read_of new) (read_of trusted_old) (read_of trusted_new) list.digest
+            counts (status_by counts));
         bytes = ends.1;
         is_line = closing_line_trusted_is_json (read_of old) (read_of new) (read_of trusted_old) (read_of trusted_new)
             list.digest counts (status_by counts) (sha256_bytes old) (sha256_bytes new) (sha256_bytes trusted_old)

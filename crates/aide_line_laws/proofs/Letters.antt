@@ -15,7 +15,7 @@ use Rattle.aide_attr.specs.declared.summary_string.Alone.{Alone}
 use Rattle.aide_attr.specs.declared.summary_string.Alone.TheVariants.{Added, Removed}
 use Rattle.aide_entry.specs.Attributes.{sides_between, type_in}
 use Rattle.aide_merge.specs.Said.{letters_of}
-use Rattle.aide_line_laws.proofs.Strings.{is_plain, are_plain}
+use Rattle.aide_line_laws.specs.Readable.{is_plain, are_plain}
 
 either_plain : (test : Bool) (x y : ℕ) → is_plain x ≡ true → is_plain y ≡ true → is_plain (if test then x else y) ≡ true
 either_plain true x y e f = e

@@ -1,9 +1,8 @@
 pub mod Strings
 pub mod Clean
 pub mod Pieces
-pub mod Values
-pub mod Objects
-pub mod Members
+pub mod Printed
+pub mod ReadableLaws
 pub mod EndLaws
 pub mod EntryLaws
 pub mod SettingsLaws

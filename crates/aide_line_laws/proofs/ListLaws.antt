@@ -2,7 +2,7 @@
 use Rattle.std.proofs.Common.{◌≡◌, ◌∙◌, ◌<◌, ◌^◌, ◌++◌, List, None, Option, Some, [], ap, refl, rules, sym, ℕ}
 use Rattle.std.specs.Prelude.{Bool, true, false, ⊤, if◌then◌else◌, decimal, option_and_then, option_map}
 use Rattle.std.proofs.lemmas.Fmt.{decimal_injective}
-use Rattle.json.specs.Json.{number, string}
+use Rattle.json.specs.Json.{number}
 use Rattle.aide_json.specs.Number.{is_exact}
 use Rattle.std.specs.FinMap.{get}
 use Rattle.aide_agreement.specs.Account.{Pair, same_as}
@@ -18,7 +18,9 @@ use Rattle.aide_merge.specs.Said.{PathChange}
 use Rattle.aide_line_run.specs.Lines.{by_texts, by_trusted, lines_of_texts}
 use Rattle.aide_line_run.specs.Listed.{ListRead, account_by, leaves_between, measures_between}
 use Rattle.aide_merge.specs.Asked.{Asked}
-use Rattle.aide_line_laws.specs.Field.{Field, count_json}
+use Rattle.aide_json.specs.Number.{count, is_exact}
+use Rattle.aide_json.specs.Value.{number, word}
+use Rattle.aide_line_laws.specs.Field.{Field, json_of}
 use Rattle.aide_line_laws.specs.Reading.{SaysAccount, line_number, same_word}
 
 -- what accounts for the changes of two texts by the trusted texts alone, without a list
@@ -82,11 +84,11 @@ abbrev IsHeld : Option Account → Type 0
 IsHeld (Some (LeftOut n)) = n < 2 ^ 64
 IsHeld _ = ⊤
 
-same_number : (m n : ℕ) → m < 2 ^ 64 → n < 2 ^ 64 → Some (count_json m) ≡ Some (count_json n) → m ≡ n
+same_number : (m n : ℕ) → m < 2 ^ 64 → n < 2 ^ 64 → Some (json_of (count m)) ≡ Some (json_of (count n)) → m ≡ n
 same_number m n h k e = decimal_injective m n h k (digits_same (is_exact m) (is_exact n) e)
   where
-    digits_same : (a b : Bool) → Some (if a then number (decimal m) else string (decimal m))
-        ≡ Some (if b then number (decimal n) else string (decimal n)) → decimal m ≡ decimal n
+    digits_same : (a b : Bool) → Some (json_of (if a then number (decimal m) else word (decimal m)))
+        ≡ Some (json_of (if b then number (decimal n) else word (decimal n))) → decimal m ≡ decimal n
     digits_same true true e = cc e
     digits_same true false e = cc e
     digits_same false true e = cc e

@@ -5,16 +5,15 @@ use Rattle.std.specs.Prelude.{codes}
 use Rattle.std.specs.List.{filter, flat_map, list_all}
 use Rattle.std.specs.Str.{is_utf8}
 use Rattle.std.proofs.lemmas.Bool.{cases_Bool, and_parts}
-use Rattle.aide_attr.specs.Attr.{all_attrs, count, detail_name_of, form_of, index, row_of, row}
+use Rattle.aide_attr.specs.Attr.{all_attrs, count, detail_name_of, index, row_of, row}
 use Rattle.aide_attr.specs.Set.{is_attr}
 use Rattle.aide_attr.specs.declared.attr.Attr.{Attr}
 use Rattle.aide_attr.specs.declared.attr.Attr.TheVariants as attr
-use Rattle.aide_attr.specs.declared.form.Form.{Form}
-use Rattle.aide_attr.specs.declared.form.Form.TheVariants.{Kind, Mode, Number, Time, Link, Digest, Opaque}
-use Rattle.aide_entry.specs.Attributes.{Attributes, Value, type_in, link_in, number_in, digest_in, opaque_in}
+use Rattle.aide_entry.specs.Attributes.{Attributes, Value, number_value, mode_value, type_value, link_value, digest_value, opaque_value}
 use Rattle.aide_attr.proofs.AttrLemmas.{at_index, index_small}
-use Rattle.aide_line_laws.specs.Field.{Field, null_or_text_field, text_field}
-use Rattle.aide_line_laws.specs.Fields.{attribute_field, entry_fields, field_if_any, value_field}
+use Rattle.aide_json.specs.Value.{Member, member_if_any, text_member}
+use Rattle.aide_line_text.specs.Attribute.{attribute_member, attribute_members, value_member}
+use Rattle.aide_line_laws.specs.Field.{Field, fields_of, json_of}
 use Rattle.aide_line_laws.specs.Reading.{all_under, is_name_of}
 
 -- ---- the names
@@ -58,32 +57,28 @@ nothing : (v : Bool) → no_fields ≡ cond v no_fields no_fields
 nothing true = refl
 nothing false = refl
 
-module _ (name : List ℕ) (v : Bool) where
-  any_under : {X : Type 0} (own : X → Field) (found : Option X) → ((x : X) → is_name_of name (own x).0 ≡ v)
-      → all_under name (field_if_any own found) ≡ cond v (field_if_any own found) []
-  any_under own None h = nothing v
-  any_under own (Some x) h = ap (λ b. cond b (own x ∷ []) []) (h x)
+module _ (name : List ℕ) (v : Bool) (own : List ℕ) (e : is_name_of name own ≡ v)
+    (f : is_name_of name (own ++ codes "_hex") ≡ v) where
+  text_name : (t : List ℕ) → is_name_of name (text_member own t).0 ≡ v
+  text_name t = elim (cases_Bool (is_utf8 t)) [
+    | inl u ↦ rw u e
+    | inr u ↦ rw u f
+  ]
 
-  module _ (own : List ℕ) (e : is_name_of name own ≡ v) (f : is_name_of name (own ++ codes "_hex") ≡ v) where
-    text_name : (t : List ℕ) → is_name_of name (text_field own t).0 ≡ v
-    text_name t = elim (cases_Bool (is_utf8 t)) [
-      | inl u ↦ rw u e
-      | inr u ↦ rw u f
-    ]
+  value_name : (value : Value) → is_name_of name (value_member own value).0 ≡ v
+  value_name (number_value number) = e
+  value_name (mode_value mode) = e
+  value_name (type_value kind) = e
+  value_name (link_value None) = e
+  value_name (link_value (Some target)) = text_name target
+  value_name (digest_value bytes) = e
+  value_name (opaque_value bytes) = text_name bytes
 
-    link_name : (target : Option (List ℕ)) → is_name_of name (null_or_text_field own target).0 ≡ v
-    link_name None = e
-    link_name (Some t) = text_name t
-
-    value_under_name : (form : Form) (value : Option Value)
-        → all_under name (value_field own form value) ≡ cond v (value_field own form value) []
-    value_under_name Kind value = any_under _ (type_in value) (λ x. e)
-    value_under_name Mode value = any_under _ (number_in value) (λ x. e)
-    value_under_name Number value = any_under _ (number_in value) (λ x. e)
-    value_under_name Time value = any_under _ (number_in value) (λ x. e)
-    value_under_name Link value = any_under _ (link_in value) link_name
-    value_under_name (Digest least most) value = any_under _ (digest_in value) (λ x. e)
-    value_under_name Opaque value = any_under _ (opaque_in value) text_name
+  any_under : (found : Option Value)
+      → all_under name (fields_of (member_if_any (value_member own) found))
+      ≡ cond v (fields_of (member_if_any (value_member own) found)) []
+  any_under None = nothing v
+  any_under (Some value) = ap (λ b. cond b (fields_of (value_member own value ∷ [])) []) (value_name value)
 
 -- ---- the members of all
 
@@ -96,29 +91,36 @@ filter_both p (x ∷ xs) ys =
       | false ↦ more
     ]
 
--- what an attribute has in an entry that shows it
-abbrev shown_field : (shows : Attr → Bool) → Attributes → Attr → List Field
-shown_field shows values b = cond (shows b) (attribute_field values b) []
+-- what is read of an attribute of an entry, and what of it if it is shown
+abbrev attribute_fields : Attributes → Attr → List Field
+attribute_fields values b = fields_of (attribute_member values b)
+
+abbrev shown_fields : (shows : Attr → Bool) → Attributes → Attr → List Field
+shown_fields shows values b = cond (shows b) (attribute_fields values b) []
+
+fields_both : (all others : List Member) → fields_of (all ++ others) ≡ fields_of all ++ fields_of others
+fields_both [] others = refl
+fields_both (named ∷ all) others = ap (λ l. (named.0, json_of named.1) ∷ l) (fields_both all others)
 
 module _ (shows : Attr → Bool) (values : Attributes) (a : Attr) where
-  one_under : (b : Attr) → all_under (detail_name_of a) (attribute_field values b) ≡ cond (is_attr a b) (attribute_field values b) []
+  one_under : (b : Attr) → all_under (detail_name_of a) (attribute_fields values b) ≡ cond (is_attr a b) (attribute_fields values b) []
   one_under b =
       let own = and_parts _ _ (all_own a b) in
-      value_under_name (detail_name_of a) (is_attr a b) (detail_name_of b)
-      (tests_agree _ _ own.0) (tests_agree _ _ own.1) (form_of b) (values b)
+      any_under (detail_name_of a) (is_attr a b) (detail_name_of b) (tests_agree _ _ own.0) (tests_agree _ _ own.1) (values b)
 
   each_under : (attrs : List Attr)
-      → all_under (detail_name_of a) (flat_map (attribute_field values) (filter shows attrs))
-      ≡ flat_map (λ b. cond (is_attr a b) (shown_field shows values b) []) attrs
+      → all_under (detail_name_of a) (fields_of (flat_map (attribute_member values) (filter shows attrs)))
+      ≡ flat_map (λ b. cond (is_attr a b) (shown_fields shows values b) []) attrs
   each_under [] = refl
   each_under (b ∷ attrs) =
       let more = each_under attrs in
-      let rest = flat_map (attribute_field values) (filter shows attrs) in
-      let wanted = flat_map (λ b. cond (is_attr a b) (shown_field shows values b) []) attrs in
+      let rest = flat_map (attribute_member values) (filter shows attrs) in
+      let wanted = flat_map (λ b. cond (is_attr a b) (shown_fields shows values b) []) attrs in
       elim (shows b) as (λ s.
-      all_under (detail_name_of a) (flat_map (attribute_field values) (cond s (b ∷ filter shows attrs) (filter shows attrs)))
-      ≡ cond (is_attr a b) (cond s (attribute_field values b) []) [] ++ wanted) [
-        | true ↦ filter_both _ (attribute_field values b) rest ∙ ap₂ (λ x y. x ++ y) (one_under b) more
+      all_under (detail_name_of a) (fields_of (flat_map (attribute_member values) (cond s (b ∷ filter shows attrs) (filter shows attrs))))
+      ≡ cond (is_attr a b) (cond s (attribute_fields values b) []) [] ++ wanted) [
+        | true ↦ ap (all_under (detail_name_of a)) (fields_both (attribute_member values b) rest)
+            ∙ filter_both _ (attribute_fields values b) (fields_of rest) ∙ ap₂ (λ x y. x ++ y) (one_under b) more
         | false ↦ more ∙ ap (λ l. l ++ wanted) (nothing (is_attr a b))
       ]
 
@@ -129,5 +131,5 @@ only_one a of = append-nil (of a)
 
 -- Under the name of an attribute is what the entry has of it, if it is shown, and nothing else.
 pub attribute_is_read_back : (shows : Attr → Bool) (values : Attributes) (a : Attr)
-    → all_under (detail_name_of a) (entry_fields shows values) ≡ cond (shows a) (attribute_field values a) []
-attribute_is_read_back shows values a = each_under shows values a all_attrs ∙ only_one a (shown_field shows values)
+    → all_under (detail_name_of a) (fields_of (attribute_members shows values)) ≡ cond (shows a) (attribute_fields values a) []
+attribute_is_read_back shows values a = each_under shows values a all_attrs ∙ only_one a (shown_fields shows values)

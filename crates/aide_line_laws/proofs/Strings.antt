@@ -1,8 +1,8 @@
 -- What stands between the quotes of a string is read back.
-use Rattle.std.proofs.Common.{◌≡◌, ℕ, zero, suc, ◌+◌, ◌*◌, ◌/◌, ◌%◌, ◌<◌, ◌≤◌, Bool, true, false, cond, ◌&&◌, ◌==◌, nat_lt, nat_le, not}
+use Rattle.std.proofs.Common.{◌≡◌, ℕ, zero, suc, ◌+◌, ◌*◌, ◌/◌, ◌%◌, ◌<◌, ◌≤◌, Bool, true, false, cond, ◌&&◌, ◌==◌}
 use Rattle.std.proofs.Common.{List, length, get_or, append-nil, [], ◌∷◌, ◌++◌, Option, Some, None, option_and_then, inl, inr, refl, sym, ap}
 use Rattle.std.proofs.Common.{◌∙◌, subst, arith, append_assoc, IsUtf8, chars}
-use Rattle.std.proofs.lemmas.Bool.{cases_eq, cases_lt, cases_Bool, ne_eqb, le-ltb, lt-leb, eqb-true, and_parts}
+use Rattle.std.proofs.lemmas.Bool.{cases_eq, cases_lt, cases_Bool, ne_eqb, le-ltb, lt-leb, eqb-true, and_from, and_parts}
 use Rattle.std.proofs.lemmas.Bool.Decides.{nat_tests}
 use Rattle.std.proofs.lemmas.Str.{encode_ascii, encodes-chars, inside_one}
 use Rattle.std.specs.List.{flat_map}
@@ -11,7 +11,10 @@ use lib.Utf8.{encode, encodes}
 use Rattle.json.specs.Text.{content, plain, after_high, prepend, code_unit, short_escape, is_high_surrogate, is_low_surrogate}
 use Rattle.json.specs.Word.{is_operator, is_space}
 use Rattle.json.specs.Lex.{Lexeme, Mode, lex, lex_byte, in_string, operator, space, other}
+use Rattle.hex.specs.Hex.{encode_with, lower_digits}
 use Rattle.aide_json.specs.Json.{hex_digit, u_escape, is_hidden, json_char, json_text}
+use Rattle.aide_line_laws.specs.ByteValues.{AreBytes}
+use Rattle.aide_line_laws.specs.Readable.{is_plain, are_plain}
 
 -- before any text, t is read as the bytes s, and the lexer passes over it
 pub record Spells (t s : List ℕ) : Type 0 where
@@ -50,16 +53,8 @@ spells_itself x q b l = record {
   lexed = λ r. rw (ne_eqb x 34 q, ne_eqb x 92 b) (stays_inside (is_operator x) (is_space x) x r (λ m. lex m r));
 }
 
--- a byte of ASCII that stands for itself in a string
-abbrev pub is_plain : ℕ → Bool
-is_plain x = nat_le 32 x && (nat_lt x 128 && (not (x == 34) && not (x == 92)))
-
 pub spells_plain : (x : ℕ) → is_plain x ≡ true → Spells (x ∷ []) (x ∷ [])
 spells_plain x e = spells_itself x (grind (arith, nat_tests, e)) (grind (arith, nat_tests, e)) (grind (arith, nat_tests, e))
-
-abbrev pub are_plain : List ℕ → Bool
-are_plain [] = true
-are_plain (x ∷ xs) = is_plain x && are_plain xs
 
 -- bytes that stand for themselves
 pub spells_same : (xs : List ℕ) → are_plain xs ≡ true → Spells xs xs
@@ -93,6 +88,19 @@ sixteen_digits = refl
 pub hex_digit_plain : (n : ℕ) → is_plain (hex_digit (n % 16)) ≡ true
 unfolding is_digit_of
 hex_digit_plain n = (and_parts _ _ (below 16 sixteen_digits (n % 16) (omega arith))).0
+
+plain_digit : (n : ℕ) → n < 16 → is_plain (hex_digit n) ≡ true
+plain_digit n l =
+    let same : n % 16 ≡ n = omega arith in
+    subst (λ d. is_plain (hex_digit d) ≡ true) same (hex_digit_plain n)
+
+-- the digits of bytes in base 16
+pub plain_digits : (bytes : List ℕ) → AreBytes bytes → are_plain (encode_with lower_digits bytes) ≡ true
+unfolding encode_with
+plain_digits [] h = refl
+plain_digits (byte ∷ bytes) h =
+    let small : byte < 256 = h.0 in
+    and_from _ _ (plain_digit (byte / 16) (omega arith)) (and_from _ _ (hex_digit_plain byte) (plain_digits bytes h.1))
 
 hex_digit_read : (n : ℕ) → (is_digit (hex_digit (n % 16)) 16 ≡ true) × (digit_value (hex_digit (n % 16)) ≡ n % 16)
 unfolding is_digit_of

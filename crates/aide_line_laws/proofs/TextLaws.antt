@@ -26,12 +26,12 @@ use Rattle.aide_merge.specs.Said.{PathChange}
 use Rattle.aide_merge.specs.Said.{all_listed, is_in}
 use Rattle.aide_merge.specs.Merged.{merged, weave}
 use Rattle.aide_merge.proofs.MergeLemmas.{changes-merged}
-use Rattle.aide_line_laws.specs.ByteValues.{AreBytes, AreOfForms, AreOfFormsIfAny}
+use Rattle.aide_line_laws.specs.ByteValues.{AreBytes, AreOfBytes, AreOfBytesIfAny}
 use Rattle.aide_line_laws.specs.Field.{Field}
 use Rattle.aide_line_laws.specs.JsonLine.{IsJsonLine, AreJsonLines}
 use Rattle.aide_line_laws.specs.TextFields.{change_fields, fields_begun, fields_of_lines}
 use Rattle.aide_line_laws.proofs.Base64.{both_bytes}
-use Rattle.aide_line_laws.proofs.Bytes.{AreAllBytes, split_bytes, filter_keeps, path_bytes, forms_of_attributes}
+use Rattle.aide_line_laws.proofs.Bytes.{AreAllBytes, split_bytes, filter_keeps, path_bytes, bytes_of_attributes}
 use Rattle.aide_line_laws.proofs.Laws.{change_line_is_json}
 
 -- ---- digests
@@ -92,12 +92,12 @@ entry_lines_bytes text h =
 
 -- an entry of bytes
 abbrev IsOfBytes : Entry → Type 0
-IsOfBytes entry = AreBytes entry.0 × AreOfForms entry.1
+IsOfBytes entry = AreBytes entry.0 × AreOfBytes entry.1
 
 entries_bytes : (columns : List Column) (all : List (List ℕ)) → AreAllBytes all → AllByRecursion IsOfBytes (map (entry_of columns) all)
 entries_bytes columns [] h = tt
 entries_bytes columns (line ∷ all) h =
-    ((path_bytes columns line h.0, forms_of_attributes columns line h.0), entries_bytes columns all h.1)
+    ((path_bytes columns line h.0, bytes_of_attributes columns line h.0), entries_bytes columns all h.1)
 
 database_bytes : (limits : Limits) (text : List ℕ) → IsSound limits text → AreBytes text
     → AllByRecursion IsOfBytes (entries (database_of text))
@@ -108,7 +108,7 @@ database_bytes limits text sound h =
 -- ---- changes
 
 abbrev pub IsChangeOfBytes : PathChange → Type 0
-IsChangeOfBytes change = AreBytes change.0 × (AreOfFormsIfAny change.1.0 × AreOfFormsIfAny change.1.1)
+IsChangeOfBytes change = AreBytes change.0 × (AreOfBytesIfAny change.1.0 × AreOfBytesIfAny change.1.1)
 
 new_bytes : (news : List Entry) → AllByRecursion IsOfBytes news
     → AllByRecursion IsChangeOfBytes (map (λ y. (y.0, (None, Some y.1))) news)

@@ -1,49 +1,45 @@
--- The members of objects of JSON, as the kit's reader of JSON gives them.
-use Rattle.std.specs.Prelude.{ℕ, ℤ, Option, Some, None, if◌then◌else◌, List, [], ◌∷◌, ◌++◌, codes}
-use Rattle.std.specs.Prelude.{decimal, nat_abs}
-use Rattle.std.specs.Fmt.{signed_decimal}
-use Rattle.std.specs.Str.{is_utf8}
+-- What a reader gets of values: values and members of objects, as the kit's reader of JSON gives them.
+use Rattle.std.specs.Prelude.{ℕ, List, [], ◌∷◌}
 use Rattle.hex.specs.Hex.{encode_lower}
-use Rattle.json.specs.Json.{Json, null, number, string, Items, no_items, item, Members, no_members}
-use Rattle.json.specs.Json.{member}
-use Rattle.aide_json.specs.Number.{is_exact}
+use Rattle.json.specs.Json.{Json, null as json_null, boolean, number as json_number, string}
+use Rattle.json.specs.Json.{array as json_array, object as json_object, Items, no_items, item}
+use Rattle.json.specs.Json.{Members as JsonMembers, no_members as json_no_members}
+use Rattle.json.specs.Json.{member as json_member}
+use Rattle.aide_json.specs.Value.{Value, null, truth, number, word, text, base16, array, object}
+use Rattle.aide_json.specs.Value.{Values, no_values, value, Members, no_members, member, Member}
 
 -- a name and its value
 abbrev pub Field : Type 0
 Field = List ℕ × Json
 
 -- the members of an object, in this order
-abbrev pub members_of : List Field → Members
-members_of [] = no_members
-members_of (field ∷ fields) = member field.0 field.1 (members_of fields)
+abbrev pub members_of : List Field → JsonMembers
+members_of [] = json_no_members
+members_of (field ∷ fields) = json_member field.0 field.1 (members_of fields)
 
--- the values of an array, in this order
-abbrev pub items_of : List Json → Items
-items_of [] = no_items
-items_of (json ∷ jsons) = item json (items_of jsons)
+abbrev mutual
+  -- what is read of a value: of bytes in base 16 it is their digits
+  pub json_of : Value → Json
+  json_of null = json_null
+  json_of (truth is) = boolean is
+  json_of (number digits) = json_number digits
+  json_of (word bytes) = string bytes
+  json_of (text bytes) = string bytes
+  json_of (base16 bytes) = string (encode_lower bytes)
+  json_of (array all) = json_array (items_in all)
+  json_of (object all) = json_object (members_in all)
 
--- a text under its name, or the digits of its bytes in base 16 under another name if it is not UTF-8
-abbrev pub text_field : (name text : List ℕ) → Field
-text_field name text =
-    if is_utf8 text then (name, string text) else (name ++ codes "_hex", string (encode_lower text))
+  -- what is read of the values of an array
+  pub items_in : Values → Items
+  items_in no_values = no_items
+  items_in (value one more) = item (json_of one) (items_in more)
 
--- a number of this size with these digits: a greater one than all readers keep is a string
-abbrev pub number_json : ℕ → List ℕ → Json
-number_json size digits = if is_exact size then number digits else string digits
+  -- what is read of the members of an object
+  pub members_in : Members → JsonMembers
+  members_in no_members = json_no_members
+  members_in (member name one more) = json_member name (json_of one) (members_in more)
 
--- an integer
-abbrev pub integer_json : ℤ → Json
-integer_json n = number_json (nat_abs n) (signed_decimal n)
-
--- a count
-abbrev pub count_json : ℕ → Json
-count_json n = number_json n (decimal n)
-
--- a text under a name, or null
-abbrev pub null_or_text_field : List ℕ → Option (List ℕ) → Field
-null_or_text_field name None = (name, null)
-null_or_text_field name (Some text) = text_field name text
-
--- a count under a name
-abbrev pub count_field : List ℕ → ℕ → Field
-count_field name n = (name, count_json n)
+-- what is read of members
+abbrev pub fields_of : List Member → List Field
+fields_of [] = []
+fields_of (named ∷ more) = (named.0, json_of named.1) ∷ fields_of more

@@ -1,8 +1,7 @@
 pub mod Field
 pub mod JsonLine
 pub mod ByteValues
-pub mod Fields
-pub mod SettingsFields
+pub mod Readable
 pub mod TextFields
 pub mod Reading
 pub mod Complete

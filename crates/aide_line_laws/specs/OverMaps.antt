@@ -9,13 +9,14 @@ use Rattle.aide_agreement.specs.Meaning.{Agrees}
 use Rattle.aide_attr.specs.declared.delta.Ignore.{Ignore}
 use Rattle.aide_db.specs.Map.{Database}
 use Rattle.aide_entry.specs.Attributes.{Attributes}
+use Rattle.aide_json.specs.Number.{count}
 use Rattle.aide_left_out.specs.Meaning.{IsLeftOut}
 use Rattle.aide_line_text.specs.declared.account.Account.{Account}
 use Rattle.aide_line_text.specs.declared.account.Account.TheVariants.{LeftOut, Old, Trusted}
 use Rattle.aide_merge.specs.Changed.{differ_by}
 use Rattle.aide_line_run.specs.Listed.{ListRead, measures_between}
 use Rattle.aide_line_laws.specs.Complete.{AreComplete, IsLast}
-use Rattle.aide_line_laws.specs.Field.{Field, count_json}
+use Rattle.aide_line_laws.specs.Field.{Field, json_of}
 use Rattle.aide_line_laws.specs.JsonLine.{AreJsonLines}
 use Rattle.aide_line_laws.specs.Reading.{SaysAccount, text_under, value_under}
 
@@ -80,7 +81,7 @@ AreApart (line ∷ lines) =
 
 -- the line is a first one: it has the number of the format
 abbrev pub IsFirstLine : List Field → Type 0
-IsFirstLine fields = value_under (codes "format") fields ≡ Some (count_json 4)
+IsFirstLine fields = value_under (codes "format") fields ≡ Some (json_of (count 4))
 
 -- These lines, with a first and a last one around them, which are about no path.
 pub record IsFramed (lines all : List (List Field)) : Type 0 where

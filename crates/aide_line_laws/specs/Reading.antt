@@ -7,9 +7,10 @@ use Rattle.std.specs.Result.{result_ok}
 use Rattle.std.specs.Str.{bytes_eq}
 use Rattle.hex.specs.Hex.{decode_of}
 use Rattle.json.specs.Json.{Json, string}
+use Rattle.aide_json.specs.Number.{count}
 use Rattle.aide_line_text.specs.declared.account.Account.{Account}
 use Rattle.aide_line_text.specs.declared.account.Account.TheVariants.{LeftOut, Old, Trusted}
-use Rattle.aide_line_laws.specs.Field.{Field, count_json}
+use Rattle.aide_line_laws.specs.Field.{Field, json_of}
 
 -- the value under a name: that of the first member of this name
 abbrev pub value_under : List ℕ → List Field → Option Json
@@ -51,7 +52,7 @@ same_word (LeftOut number) = None
 
 -- the number of the line of a list that leaves a change out
 abbrev pub line_number : Account → Option Json
-line_number (LeftOut number) = Some (count_json number)
+line_number (LeftOut number) = Some (json_of (count number))
 line_number _ = None
 
 -- A reader finds what accounts for a change: an entry by its word, the line of a list by its number, or nothing.

@@ -10,14 +10,15 @@ use Rattle.aide_line_run.specs.LineCounts.{line_counts, status_by}
 use Rattle.aide_line_run.specs.Lines.{read_of}
 use Rattle.aide_line_run.specs.Lines.{by_texts}
 use Rattle.aide_line_run.specs.Listed.{ListRead}
-use Rattle.aide_line_laws.specs.Field.{Field}
-use Rattle.aide_line_laws.specs.Fields.{closing_fields_trusted, opening_fields_trusted, path_fields}
+use Rattle.aide_line_text.specs.Entry.{path_members}
+use Rattle.aide_line_text.specs.Frame.{closing_members, opening_members}
+use Rattle.aide_line_laws.specs.Field.{Field, fields_of}
 
 -- the members of the line of a change
 abbrev pub change_fields : Options → Accounts → PathChange → List Field
 change_fields options account change =
-    path_fields change.0 (letters_of options.ignore change.1) (account change)
-    (shows_at (widest options) change.1) change.1
+    fields_of (path_members change.0 (letters_of options.ignore change.1) (account change)
+    (shows_at (widest options) change.1) change.1)
 
 -- those of a first line, and of each change that has a line
 abbrev pub fields_begun : Options → Accounts → List Field → List PathChange → List (List Field)
@@ -38,6 +39,7 @@ fields_of_texts list asked trusted old new trusted_old trusted_new =
     let account = by_texts list old new trusted_old trusted_new in
     let counts = line_counts asked.options account (database_of old) (database_of new) in
     fields_of_lines asked.options account
-    (opening_fields_trusted asked.old_path asked.new_path trusted.old_path trusted.new_path)
-    (closing_fields_trusted (read_of old) (read_of new) (read_of trusted_old) (read_of trusted_new)
-    list.digest counts (status_by counts)) (changes (database_of old) (database_of new))
+    (fields_of (opening_members asked.old_path asked.new_path trusted.old_path trusted.new_path))
+    (fields_of (closing_members
+    (read_of old) (read_of new) (read_of trusted_old) (read_of trusted_new)
+    list.digest counts (status_by counts))) (changes (database_of old) (database_of new))
