@@ -7,10 +7,10 @@ ghost use Rattle.aide_merge.specs.RightAnswer.{Report};
 ghost use Rattle.aide_site.specs.Answer.{Named, asked_by, limits};
 ghost use Rattle.aide_line_session.specs.AsksForLines.{AsksForLines};
 ghost use Rattle.aide_line_session.specs.LineAnswer.{line_answer, lines_at_fault, trusted_of};
-ghost use Rattle.aide_line_session.specs.LineEnds.{StarvedLines, WholeLines};
-ghost use Rattle.aide_site.specs.Ends.{sinks_between};
+ghost use Rattle.aide_line_session.specs.LineEnds.{WholeLines};
+ghost use Rattle.aide_site.specs.Ends.{Starved, sinks_between};
 ghost use Rattle.aide_site.specs.Put.{HasNoFailure};
-ghost use Rattle.aide_line_session.specs.Trusted.{trusted_at};
+ghost use Rattle.aide_site.specs.Trusted.{trusted_at};
 ghost use Rattle.aide_line_run.specs.Listed.{ListRead};
 ghost use Rattle.aide_line_run.specs.declared.pair_fault.PairFault.{PairFault};
 ghost use Rattle.aide_words.specs.LineJob.{LineJobText};
@@ -61,7 +61,7 @@ pub fn run_lines_program<S: Site, W: Sink, E: Sink>(
         (Some old) (Some new) (Some trusted_old) (Some trusted_new))
         named (trusted_of job) right) result
         (sinks_between W.delivered E.delivered E.failures out.old out.new err.old err.new)
-        ⊎ StarvedLines result
+        ⊎ Starved result
         (sinks_between W.delivered E.delivered E.failures out.old out.new err.old err.new) }
     ensures bound { (job : LineJobText) (list : ListRead) (named : Named)
         (settings : Configured)

@@ -45,7 +45,7 @@ pub fn run_program<S: Site, W: Sink, E: Sink>(
         → Runs limits (asked_by settings.options named) old new right
         → Whole (answer_of_run right) result
         (sinks_between W.delivered E.delivered E.failures out.old out.new err.old err.new)
-        ⊎ Starved (answer_of_run right) result
+        ⊎ Starved result
         (sinks_between W.delivered E.delivered E.failures out.old out.new err.old err.new) }
     ensures bound { (named : Named) (settings : Configured) (old new : List ℕ)
         → Asks (S.file_at site.old) words.now named settings old new

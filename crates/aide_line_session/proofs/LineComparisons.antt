@@ -1,44 +1,34 @@
 -- A comparison by lines ends a session with its answer, or is kept from it.
-use Rattle.std.proofs.Common.{◌≡◌, ◌∙◌, ℕ, ◌≤◌, List, [], Option, Some, None, refl, sym, ap, false, Ok, Err, inl, inr}
+use Rattle.std.proofs.Common.{◌≡◌, ℕ, ◌≤◌, List, [], Option, Some, None, refl, sym, ap, Ok, Err, inl, inr}
 use Rattle.std.proofs.Common.{rules}
-use Rattle.std.specs.Prelude.{Result, IsSome}
+use Rattle.std.specs.Prelude.{Result}
 use Rattle.std.specs.Io.KnownBytes.{Appends}
 use Rattle.std.proofs.Math.Path.{subst}
 use Rattle.std.proofs.lemmas.List.{append-nil}
 use Rattle.aide_conf.specs.Settings.{Configured}
 use Rattle.aide_db.proofs.Laws.{no_sound_text_has_a_fault}
 use Rattle.aide_db.specs.Database.{IsSound}
-use Rattle.aide_db.specs.Side.{by_side}
 use Rattle.aide_db.specs.declared.fault.DbFault.{DbFault}
-use Rattle.aide_db.specs.declared.side.Side.{Side}
 use Rattle.aide_db.specs.declared.side.Side.TheVariants.{Old, New}
-use Rattle.aide_entry.specs.Cause.{is_memory}
-use Rattle.aide_entry.specs.declared.fault_kind.DbFaultKind.{DbFaultKind}
-use Rattle.aide_entry.specs.declared.fault_kind.DbFaultKind.TheVariants as db
 use Rattle.aide_merge.specs.Asked.{Asked}
 use Rattle.aide_text.specs.Failures.{Rose}
-use Rattle.aide_merge.specs.FaultStatus.{fault_status, kind_status}
 use Rattle.aide_merge.specs.Outcomes.{outcome_over}
-use Rattle.aide_merge.specs.RightAnswer.{Causes, IsHindered, Report, RunsBy, RunsOverBy, run_answer}
+use Rattle.aide_merge.specs.RightAnswer.{IsHindered, Report, RunsBy, RunsOverBy, run_answer}
 use Rattle.aide_text.specs.Sent.{SendsPart}
 use Rattle.aide_merge.specs.declared.outcome.Outcome.{Outcome}
 use Rattle.aide_merge.specs.declared.run_fault.RunFault.{RunFault}
-use Rattle.aide_merge.specs.declared.run_fault.RunFault.TheVariants.{Open, Database, Changed, Write}
+use Rattle.aide_merge.specs.declared.run_fault.RunFault.TheVariants.{Database, Write}
 use Rattle.aide_site.specs.Answer.{Named, asked_by, limits}
 use Rattle.aide_line_session.specs.LineAnswer.{ComparesForLines}
 use Rattle.aide_line_session.specs.LineAnswer.{BeginsOverTexts, LineAnswer, HasWritten, LineOutput, HasBegun, all_lines, line_answer}
-use Rattle.aide_line_session.specs.LineAnswer.{no_line, pair_fault_line, pair_fault_status}
+use Rattle.aide_line_session.specs.LineAnswer.{lines_written, no_line, pair_fault_line, pair_fault_status}
 use Rattle.aide_line_session.specs.LineAnswer.{lines_at_fault, start_of_lines, trusted_of}
-use Rattle.aide_line_session.specs.LineEnds.{PairFailure, PairFailureCause, LineView, ComparesPairs}
-use Rattle.aide_line_session.specs.LineEnds.{EndsWithin, MeansOfPair, pair_failure_line}
-use Rattle.aide_line_session.specs.LineEnds.{compared_line, compared_status, of_compared}
-use Rattle.aide_line_session.specs.LineEnds.{WholeLines, trusted_unopened, trusted_unread}
-use Rattle.aide_site.specs.Closing.{HasText}
-use Rattle.aide_site.specs.Ends.{HasFailed, Puts, Sinks, unopened, unread, unwritten}
-use Rattle.aide_site.specs.Files.{Files}
-use Rattle.aide_site.specs.Lines.{kind_line, outcome_lines, run_fault_line}
-use Rattle.aide_site.proofs.Endings.{never_true, rose_later, true_is_not_false}
-use Rattle.aide_site.proofs.PutLemmas.{put_as}
+use Rattle.aide_line_session.specs.LineEnds.{ComparesPairs, LineView, WholeLines, compared_line, compared_status}
+use Rattle.aide_site.specs.Closing.{MeansOfPair}
+use Rattle.aide_site.specs.Ends.{EndsOf, HasFailed, Puts, Sinks, of_sites, of_whose}
+use Rattle.aide_site.specs.Lines.{outcome_lines}
+use Rattle.aide_site.proofs.Endings.{hindered, rose_later}
+use Rattle.aide_site.specs.declared.whose.Whose.{Whose}
 use Rattle.aide_site.specs.declared.whose.Whose.TheVariants as whose
 use Rattle.aide_line_run.specs.BeforeFault.{AreBeforeFaults, FourTexts}
 use Rattle.aide_line_run.specs.Lines.{lines_of_texts}
@@ -71,83 +61,18 @@ goes_then_starts (start_of_lines list asked trusted texts) before after part = p
 
 -- ---- a run that is kept from its answer
 
--- a fault that hinders, and is no want of memory, is a failed read
-read_failed : (kind : DbFaultKind) (rose : Type 0) → is_memory kind ≡ false → Causes kind rose ⊥ → (kind ≡ db.Read) × rose
-read_failed db.Read rose fed cause = (refl, cause)
-read_failed db.Memory rose fed cause = absurd (true_is_not_false fed)
-read_failed kind rose fed cause = absurd cause
+-- what it means that the site of a pair has failed
+abbrev pub sites_of : ℕ → LineView → Whose → Type 0
+sites_of before v =
+    of_sites (HasFailed v.is_reliable before v.site_after) (HasFailed v.trusted_reliable v.trusted_before v.trusted_after)
 
--- what is there has a text
-there : (known : Option (Option (List ℕ))) (file : Option (List ℕ)) → known ≡ Some file → IsSome file
-    → ((text : List ℕ) → known ≡ Some (Some text) → ⊥) → ⊥
-there known None told some none = cc
-there known (Some text) told some none = none text told
-
-there_side : (files : Files) (pair : Named) (old new : Option (List ℕ)) (side : Side) → files pair.old_path ≡ Some old
-    → files pair.new_path ≡ Some new
-    → IsSome (by_side old new side) → ((text : List ℕ) → HasText files pair side text → ⊥) → ⊥
-there_side files pair old new Old told_old told_new some none = there (files pair.old_path) old told_old some none
-there_side files pair old new New told_old told_new some none = there (files pair.new_path) new told_new some none
+-- how a session ends, by its answer
+abbrev pub EndsFor : LineAnswer → (named trusted : Named) → (status before : ℕ) → LineView → Type 0
+EndsFor a named trusted status before v =
+    EndsOf lines_written a (of_whose named trusted) status v.sinks (sites_of before v) (Rose v.out_before v.out_after)
 
 module _ (a : LineAnswer) (named trusted : Named) (v : LineView) (before count : ℕ) (more : before ≤ count)
-    (sent : HasBegun a.output v.sinks.out_old v.sinks.out_new) where
-  abbrev Ended : ℕ → Type 0
-  Ended status = EndsWithin a named trusted status v.sinks (HasFailed v.is_reliable before v.site_after)
-      (HasFailed v.trusted_reliable v.trusted_before v.trusted_after) (Rose v.out_before v.out_after)
-
-  broken : (status : ℕ) (failure : PairFailure) → status ≡ 18
-      → PairFailureCause failure (HasFailed v.is_reliable before v.site_after)
-      (HasFailed v.trusted_reliable v.trusted_before v.trusted_after) (Rose v.out_before v.out_after)
-      → Puts (pair_failure_line named trusted failure) v.sinks
-      → Ended status
-  broken status failure is cause put =
-      inr (inr (record { status_is = is; output = sent; failure = failure; cause = cause; put = put }))
-
-  compared_hindered : (fault : RunFault) (old new : Option (List ℕ)) (status : ℕ) → v.files named.old_path ≡ Some old
-      → v.files named.new_path ≡ Some new → status ≡ fault_status fault
-      → Puts (run_fault_line whose.Compared named.old_path named.new_path fault) v.sinks
-      → MeansOfPair v.files named v.is_reliable v.course (Rose count v.site_after) (Rose v.out_before v.out_after) fault
-      → IsHindered old new (Rose count v.site_after) (Rose v.out_before v.out_after) fault
-      → Ended status
-  compared_hindered (Open side) old new status told_old told_new is put means hindered =
-      broken status (of_compared (unopened side)) is (
-        never_true v.is_reliable (λ reliable. there_side v.files named old new side told_old told_new hindered.0 (means.reliable reliable)),
-        rose_later before count v.site_after more hindered.1,
-      ) put
-  compared_hindered (Database fault) old new status told_old told_new is put means hindered =
-      let failed = read_failed fault.kind (Rose count v.site_after) means.cause.2 hindered.1 in
-      broken status (of_compared (unread fault)) (is ∙ ap kind_status failed.0) (
-        failed.0,
-        (
-          never_true v.is_reliable (λ reliable. means.reliable reliable failed.0),
-          rose_later before count v.site_after more failed.1,
-        ),
-      )
-      (put_as _ _ (ap (kind_line whose.Compared fault) failed.0) put)
-  compared_hindered (Changed side) old new status told_old told_new is put means hindered = absurd hindered
-  compared_hindered (Write written) old new status told_old told_new is put means hindered =
-      broken status (of_compared unwritten) is hindered put
-
-  trusted_hindered : (fault : RunFault) (old new : Option (List ℕ)) (status : ℕ) → v.trusted_files trusted.old_path ≡ Some old
-      → v.trusted_files trusted.new_path ≡ Some new → status ≡ fault_status fault
-      → Puts (run_fault_line whose.Trusted trusted.old_path trusted.new_path fault) v.sinks
-      → MeansOfPair v.trusted_files trusted v.trusted_reliable v.trusted_course (Rose v.trusted_before v.trusted_after) ⊥ fault
-      → IsHindered old new (Rose v.trusted_before v.trusted_after) ⊥ fault
-      → Ended status
-  trusted_hindered (Open side) old new status told_old told_new is put means hindered =
-      broken status (trusted_unopened side) is (
-        never_true v.trusted_reliable (λ reliable. there_side v.trusted_files trusted old new side told_old told_new hindered.0
-            (means.reliable reliable)),
-        hindered.1,
-      ) put
-  trusted_hindered (Database fault) old new status told_old told_new is put means hindered =
-      let failed = read_failed fault.kind (Rose v.trusted_before v.trusted_after) means.cause.2 hindered.1 in
-      broken status (trusted_unread fault) (is ∙ ap kind_status failed.0)
-      (failed.0, (never_true v.trusted_reliable (λ reliable. means.reliable reliable failed.0), failed.1))
-      (put_as _ _ (ap (kind_line whose.Trusted fault) failed.0) put)
-  trusted_hindered (Changed side) old new status told_old told_new is put means hindered = absurd hindered
-  trusted_hindered (Write written) old new status told_old told_new is put means hindered = absurd hindered
-
+    (begun : HasBegun a.output v.sinks.out_old v.sinks.out_new) where
   hindered_ends : (fault : PairFault) (old new trusted_old trusted_new : Option (List ℕ)) (status : ℕ)
       → v.files named.old_path ≡ Some old → v.files named.new_path ≡ Some new
       → v.trusted_files trusted.old_path ≡ Some trusted_old → v.trusted_files trusted.new_path ≡ Some trusted_new
@@ -157,13 +82,17 @@ module _ (a : LineAnswer) (named trusted : Named) (v : LineView) (before count :
       (MeansOfPair v.trusted_files trusted v.trusted_reliable v.trusted_course (Rose v.trusted_before v.trusted_after) ⊥) fault
       → OfEach (IsHindered old new (Rose count v.site_after) (Rose v.out_before v.out_after))
       (IsHindered trusted_old trusted_new (Rose v.trusted_before v.trusted_after) ⊥) fault
-      → Ended status
+      → EndsFor a named trusted status before v
   hindered_ends (Compared fault) old new trusted_old trusted_new status told_old told_new told_trusted_old told_trusted_new is put means
-      hindered =
-      compared_hindered fault old new status told_old told_new is put means hindered
+      why =
+      hindered lines_written a (of_whose named trusted) status v.sinks (sites_of before v) (Rose v.out_before v.out_after) begun
+      whose.Compared v.files v.is_reliable v.course (Rose count v.site_after) (Rose v.out_before v.out_after) fault old new
+      (λ failed. (failed.0, rose_later before count v.site_after more failed.1)) (λ sent. sent) told_old told_new is put means why
   hindered_ends (Trusted fault) old new trusted_old trusted_new status told_old told_new told_trusted_old told_trusted_new is put means
-      hindered =
-      trusted_hindered fault trusted_old trusted_new status told_trusted_old told_trusted_new is put means hindered
+      why =
+      hindered lines_written a (of_whose named trusted) status v.sinks (sites_of before v) (Rose v.out_before v.out_after) begun
+      whose.Trusted v.trusted_files v.trusted_reliable v.trusted_course (Rose v.trusted_before v.trusted_after) ⊥ fault trusted_old
+      trusted_new (λ failed. failed) (λ none. absurd none) told_trusted_old told_trusted_new is put means why
 
 -- ---- what has gone out at a fault
 
@@ -267,11 +196,6 @@ module _ (sent : LineOutput) (named trusted : Named) (s : Sinks) where
       → (r ≡ Err fault → P) → (hindered fault → P) → StopsForPair r hindered fault → P
   by_stop (Ok report) hindered fault P f g stops = g stops
   by_stop (Err other) hindered fault P f g stops = elim stops [ inl is ↦ f (ap (λ (x : PairFault). Err x) (sym is)) | inr h ↦ g h ]
-
--- how a session ends, by its answer
-abbrev pub EndsFor : LineAnswer → (named trusted : Named) → (status before : ℕ) → LineView → Type 0
-EndsFor a named trusted status before v = EndsWithin a named trusted status v.sinks (HasFailed v.is_reliable before v.site_after)
-    (HasFailed v.trusted_reliable v.trusted_before v.trusted_after) (Rose v.out_before v.out_after)
 
 module _ (job : LineJobText) (list : ListRead) (status before count : ℕ) (v : LineView) (s : Configured) (named : Named)
     (more : before ≤ count) (a : LineAnswer) (is : ComparesForLines v.files v.trusted_files job list s named a) where

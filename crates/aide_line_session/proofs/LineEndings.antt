@@ -16,28 +16,25 @@ use Rattle.aide_site.specs.Answer.{Named}
 use Rattle.aide_line_session.specs.LineAnswer.{ComparesForLines, IsGivenLineAnswer, IsLineAnswer, IsListedLineAnswer}
 use Rattle.aide_line_session.specs.LineAnswer.{IsSettingsLineAnswer}
 use Rattle.aide_line_session.specs.LineAnswer.{LineAnswer}
-use Rattle.aide_line_session.specs.LineAnswer.{refused_lines, trusted_of}
-use Rattle.aide_line_session.specs.LineEnds.{PairFailure, PairFailureCause, LineView, ClosesLines, ComparesPairs, EndsLinesBy}
-use Rattle.aide_line_session.specs.LineEnds.{EndsWithin, StopCause, StopsWith}
-use Rattle.aide_line_session.specs.LineEnds.{compared_line, of_compared, stop_line, stop_status}
-use Rattle.aide_line_session.specs.LineEnds.{StarvedLines, WholeLines, trusted_unopened, trusted_unread}
+use Rattle.aide_line_session.specs.LineAnswer.{lines_written, refused_lines, trusted_of}
+use Rattle.aide_line_session.specs.LineEnds.{LineView, ClosesLines, ComparesPairs, EndsLinesBy}
+use Rattle.aide_line_session.specs.LineEnds.{EndsWithin, StopCause, StopsWith, WholeLines}
+use Rattle.aide_line_session.specs.LineEnds.{compared_line, stop_line, stop_status}
 use Rattle.aide_line_session.specs.LineEnds.{EarlyStop, list_refused, no_settings}
-use Rattle.aide_site.specs.Ends.{Puts, Sinks, config_unread as failed_config, unopened, unread, unwritten}
+use Rattle.aide_site.specs.Ends.{Puts, Sinks, Starved, of_sites, of_whose}
 use Rattle.aide_site.specs.Files.{Files}
 use Rattle.aide_site.specs.JobSettings.{comparison_of, no_settings_line, no_settings_status}
 use Rattle.aide_site.specs.declared.job_config.NoSettings.{NoSettings}
-use Rattle.aide_site.specs.declared.job_config.NoSettings.TheVariants.{Memory}
 use Rattle.aide_line_session.specs.GivenList.{IsList, IsListOf, list_line, list_of}
 use Rattle.aide_site.specs.Held.{HoldsWithin, most_held}
-use Rattle.aide_site.specs.Lines.{unread_line}
 use Rattle.aide_site.proofs.AnswerSteps.{read_is}
-use Rattle.aide_site.proofs.Endings.{same_some}
-use Rattle.aide_site.proofs.JobSettings.{stopped}
+use Rattle.aide_site.proofs.Endings.{ends_unfailed, of_both, same_some, starved_for}
+use Rattle.aide_site.proofs.JobSettings.{ends_without}
 use Rattle.aide_site.proofs.PutLemmas.{put_as, put_passed}
 use Rattle.aide_line_run.specs.Listed.{ListRead}
 use Rattle.aide_line_run.specs.declared.pair_fault.PairFault.{PairFault}
 use Rattle.aide_words.specs.LineJob.{LineJobText}
-use Rattle.aide_line_session.proofs.LineComparisons.{EndsFor, compared_ends, none_starts}
+use Rattle.aide_line_session.proofs.LineComparisons.{EndsFor, compared_ends, none_starts, sites_of}
 
 -- ---- from the answer to a job to that of its configuration
 
@@ -89,38 +86,23 @@ whole_stop a line code status v is stops = search rules
 
 module _ (job : LineJobText) (status before : ℕ) (v : LineView) (named : Named) (a : LineAnswer)
     (is : IsLineAnswer v.files v.trusted_files job named a) where
-  starved_stop : (why : NoSettings) → why ≡ Memory
-      → StopsWith (no_settings_line job.config why) (no_settings_status why) status v
-      → EndsFor a named (trusted_of job) status before v
-  starved_stop why memory stops = inr (inl (record {
-    status_is = stops.status_is ∙ ap no_settings_status memory;
-    output = stops.output;
-    put = put_as _ _ (ap (no_settings_line job.config) memory) stops.put;
-  }))
-
   stop_ends : (stop : EarlyStop) → StopCause v.files v.is_reliable job (Rose before v.site_after) stop
       → StopsWith (stop_line job stop) (stop_status stop) status v
       → EndsFor a named (trusted_of job) status before v
   stop_ends (list_refused fault) cause stops =
       inl (whole_stop a (list_line fault) 17 status v (of_reading v.files v.trusted_files job named a is (Err fault) cause) stops)
   stop_ends (no_settings why) cause stops = elim cause [
-    | inl memory ↦ starved_stop why memory stops
+    | inl memory ↦ starved_for lines_written a (of_whose named (trusted_of job)) status v.sinks (sites_of before v)
+        (Rose v.out_before v.out_after) job.config why memory stops.status_is stops.output stops.put
     | inr because ↦
         let listed = of_rules v.files v.trusted_files job named a is because.0 in
-        elim (stopped v.files v.is_reliable (comparison_of job) (Rose before v.site_after) why listed.settings because.1 listed.are) [
-          | inl memory ↦ starved_stop why memory stops
-          | inr other ↦ elim other [
-            | inl same ↦ inl (whole_stop a (no_settings_line job.config why) (no_settings_status why) status v
-                (of_settings v.files v.trusted_files job (list_of job.without because.0.0) named a (Err why) listed same) stops)
-            | inr failed ↦ inr (inr (record {
-              status_is = stops.status_is ∙ ap no_settings_status failed.0;
-              output = none_starts a.output v.sinks.out_old v.sinks.out_new stops.output;
-              failure = of_compared failed_config;
-              cause = (failed.1, failed.2);
-              put = put_as _ _ (ap (no_settings_line job.config) failed.0 ∙ ap unread_line (sym is.config_is)) stops.put;
-            }))
-          ]
-        ]
+        ends_without lines_written a (of_whose named (trusted_of job)) status v.sinks (sites_of before v) (Rose v.out_before v.out_after)
+        v.files v.is_reliable (comparison_of job) (Rose before v.site_after) why listed.settings
+        (none_starts a.output v.sinks.out_old v.sinks.out_new stops.output) because.1 listed.are stops.status_is stops.output
+        (put_as _ _ (ap (λ path. no_settings_line path why) (sym is.config_is)) stops.put)
+        (λ same. inl (whole_stop a (no_settings_line job.config why) (no_settings_status why) status v
+        (of_settings v.files v.trusted_files job (list_of job.without because.0.0) named a (Err why) listed same) stops))
+        (λ failed. failed)
   ]
 
   -- the comparison of the answer
@@ -186,20 +168,13 @@ put_rises job status before v ends = search rules
 
 -- ---- without a failure
 
-no_failure_left : (failure : PairFailure) (site trusted_site out : Type 0) → (site → ⊥) → (trusted_site → ⊥) → (out → ⊥)
-    → PairFailureCause failure site trusted_site out → ⊥
-no_failure_left (of_compared failed_config) site trusted_site out none trusted_none out_none cause = none cause
-no_failure_left (of_compared (unopened side)) site trusted_site out none trusted_none out_none cause = none cause
-no_failure_left (of_compared (unread fault)) site trusted_site out none trusted_none out_none cause = none cause.1
-no_failure_left (of_compared unwritten) site trusted_site out none trusted_none out_none cause = out_none cause
-no_failure_left (trusted_unopened side) site trusted_site out none trusted_none out_none cause = trusted_none cause
-no_failure_left (trusted_unread fault) site trusted_site out none trusted_none out_none cause = trusted_none cause.1
-
 -- an ending without a failure
 pub lines_unfailed : (a : LineAnswer) (named trusted : Named) (status : ℕ) (s : Sinks) (site trusted_site out : Type 0) → (site → ⊥)
     → (trusted_site → ⊥) → (out → ⊥) → EndsWithin a named trusted status s site trusted_site out
-    → WholeLines a status s ⊎ StarvedLines status s
-lines_unfailed a named trusted status s site trusted_site out none trusted_none out_none ends = search (rules, no_failure_left)
+    → WholeLines a status s ⊎ Starved status s
+lines_unfailed a named trusted status s site trusted_site out none trusted_none out_none =
+    ends_unfailed lines_written a (of_whose named trusted) status s (of_sites site trusted_site) out
+    (of_both site trusted_site none trusted_none) out_none
 
 -- ---- once the lines are passed on
 

@@ -12,25 +12,25 @@ use Rattle.aide_db.specs.declared.side.Side.TheVariants.{Old, New}
 use Rattle.aide_db.specs.declared.sources.Sources.{Ghosts as AnySources}
 use Rattle.aide_merge.specs.Asked.{Asked}
 use Rattle.aide_text.specs.Failures.{Rose}
-use Rattle.aide_merge.specs.RightAnswer.{IsOfReliable}
 use Rattle.aide_merge.specs.Seen.{seen, sink_seen}
 use Rattle.aide_merge.specs.declared.outcome.Outcome.{Outcome}
 use Rattle.aide_merge.specs.declared.run_fault.RunFault.{RunFault}
-use Rattle.aide_merge.specs.declared.run_fault.RunFault.TheVariants.{Open, Database, Changed, Write}
 use Rattle.aide_site.specs.Answer.{Named, asked_by, limits}
-use Rattle.aide_line_session.specs.LineEnds.{LineView, ClosesCompared, ComparesPairs, EarlyStop, EndsLinesBy, IsOfReliableFiles}
-use Rattle.aide_line_session.specs.LineEnds.{MeansOfPair, StopCause}
+use Rattle.aide_line_session.specs.LineEnds.{LineView, ClosesCompared, ComparesPairs, EarlyStop, EndsLinesBy, StopCause}
 use Rattle.aide_line_session.specs.LineEnds.{list_refused, no_settings}
 use Rattle.aide_line_session.specs.LineSession.{line_view}
-use Rattle.aide_site.specs.Closing.{Course, HasText}
+use Rattle.aide_site.specs.Closing.{Course, MeansOfPair}
 use Rattle.aide_site.specs.Files.{Files}
-use Rattle.aide_site.specs.JobSettings.{comparison_of}
+use Rattle.aide_site.specs.JobSettings.{NoSettingsCause, comparison_of}
+use Rattle.aide_site.specs.declared.job_config.NoSettings.{NoSettings}
+use Rattle.aide_site.specs.declared.job_config.NoSettings.TheVariants.{Memory, Unread, TooLarge, Refused}
+use Rattle.aide_words.specs.Job.{JobText}
 use Rattle.aide_site.specs.Pointing.{KeepsFiles}
 use Rattle.aide_site.specs.Session.{view_between}
-use Rattle.aide_line_session.specs.Trusted.{trusted_at}
-use Rattle.aide_line_session.specs.code.LineParts.{IsPointed, named_by}
+use Rattle.aide_site.specs.Trusted.{trusted_at}
+use Rattle.aide_site.specs.code.Parts.{IsPointed, named_by}
 use Rattle.aide_site.specs.code.Config.{OpensOneFile}
-use Rattle.aide_site.proofs.Closings.{no_settings_by, run_cause}
+use Rattle.aide_site.proofs.PointedLemmas.{means_of, pointed_tells}
 use Rattle.aide_line_session.proofs.Causes.{caused_of}
 use Rattle.aide_site.proofs.Endings.{rose_later}
 use Rattle.aide_text.specs.declared.sink.Sink.{Ghosts as AnySink}
@@ -43,50 +43,6 @@ use Rattle.aide_line_run.specs.LinesRun.{IsLinesRun}
 use Rattle.aide_line_run.specs.declared.pair_fault.PairFault.{PairFault}
 use Rattle.aide_line_run.specs.declared.pair_fault.PairFault.TheVariants.{Compared, Trusted}
 use Rattle.aide_words.specs.LineJob.{LineJobText}
-
--- ---- sites that are pointed at paths
-
-module _ (files : Files) (wish : Asked) (bytes_of : Side → Option (List ℕ)) (is_missing : Side → Bool)
-    (pointed : IsPointed files wish bytes_of is_missing) (config : List ℕ) where
-  -- a side gives the text that is at its path
-  pub pointed_tells : (side : Side) (text : List ℕ) → HasText files (named_by config wish) side text → bytes_of side ≡ Some text
-  pointed_tells Old text has = pointed.of_old (Some text) has
-  pointed_tells New text has = pointed.of_new (Some text) has
-
-  of_reliable : (fault : RunFault) → IsOfReliable bytes_of fault → IsOfReliableFiles files (named_by config wish) fault
-  of_reliable (Open side) none = λ text has. let there = pointed_tells side text has in cc
-  of_reliable (Database fault) none = none
-  of_reliable (Changed side) none = tt
-  of_reliable (Write written) none = tt
-
--- what a fault of a pair means over the files that its site is pointed at
-pub means_of : (files : Files) (p : PairSeen) (out : Type 0) (config : List ℕ)
-    (flushes_before flushes_after : ℕ) (is_flushed : Bool) (fault : RunFault)
-    → IsPointed files p.asked p.before.bytes_of p.before.is_missing → limits.line ≤ p.desk_before.room
-    → IsFaultOfPair limits p out fault
-    → MeansOfPair files (named_by config p.asked) p.before.is_reliable (record {
-      opened_before = p.before.openings;
-      opened_after = p.after.openings;
-      gives_after = p.after.bytes_at;
-      given_after = p.after.was_given;
-      flushes_before = flushes_before;
-      flushes_after = flushes_after;
-      is_flushed = is_flushed;
-    }) (Rose p.before.failures p.after.failures) out fault
-means_of files p out config flushes_before flushes_after is_flushed fault pointed enough means = record {
-  cause = run_cause files (named_by config p.asked) p.before.bytes_of fault _ out
-      (pointed_tells files p.asked p.before.bytes_of p.before.is_missing pointed config) (caused_of _ _ _ fault means.cause) means.right
-      (means.memory enough);
-  reliable = λ is. of_reliable files p.asked p.before.bytes_of p.before.is_missing pointed config fault (means.reliable is);
-  refused = means.refused;
-  not_given = means.not_given;
-}
-
--- the same sites are pointed after a call that keeps what is known of the files
-pub pointed_later : (files later : Files) (wish : Asked) (bytes_of : Side → Option (List ℕ)) (is_missing : Side → Bool)
-    → later ≡ files → IsPointed files wish bytes_of is_missing → IsPointed later wish bytes_of is_missing
-pointed_later files later wish bytes_of is_missing same pointed =
-    subst (λ (f : Files). IsPointed f wish bytes_of is_missing) (sym same) pointed
 
 -- the same for the site of a trusted pair
 pub trusted_later : (files later : Files) (wish : Asked) (bytes_of : Side → Option (List ℕ)) (is_missing : Side → Bool)
@@ -114,6 +70,15 @@ module _ (files trusted_files_told : Files) (p q : PairSeen) (out : Type 0) (con
     is_flushed = is_flushed;
   }
 
+  pair_means : (known : Files) (r : PairSeen) (sink : Type 0) (fault : RunFault)
+      → IsPointed known r.asked r.before.bytes_of r.before.is_missing → limits.line ≤ r.desk_before.room
+      → IsFaultOfPair limits r sink fault
+      → MeansOfPair known (named_by config r.asked) r.before.is_reliable (course_seen r) (Rose r.before.failures r.after.failures) sink
+      fault
+  pair_means known r sink fault pointed enough means =
+      means_of known r.asked r.before.bytes_of r.before.is_missing pointed config r.before.is_reliable (course_seen r) _ sink fault
+      (caused_of _ _ _ fault means.cause) means.right (means.memory enough) means.reliable means.refused means.not_given
+
   faults_mean : (fault : PairFault)
       → IsPointed files p.asked p.before.bytes_of p.before.is_missing
       → IsPointed trusted_files_told q.asked q.before.bytes_of q.before.is_missing
@@ -124,9 +89,9 @@ module _ (files trusted_files_told : Files) (p q : PairSeen) (out : Type 0) (con
       (MeansOfPair trusted_files_told (named_by config q.asked) q.before.is_reliable (course_seen q)
       (Rose q.before.failures q.after.failures) ⊥) fault
   faults_mean (Compared fault) pointed trusted_pointed enough trusted_enough means =
-      means_of files p out config flushes_before flushes_after is_flushed fault pointed enough means
+      pair_means files p out fault pointed enough means
   faults_mean (Trusted fault) pointed trusted_pointed enough trusted_enough means =
-      means_of trusted_files_told q ⊥ config flushes_before flushes_after is_flushed fault trusted_pointed trusted_enough means
+      pair_means trusted_files_told q ⊥ fault trusted_pointed trusted_enough means
 
 -- a file that is not there is a side that is missing
 missing_file : (files : Files) (wish : Asked) (bytes_of : Side → Option (List ℕ)) (is_missing : Side → Bool) (config : List ℕ) (P : Type 0)
@@ -207,10 +172,6 @@ compares_pairs src w e x y p q out_old out_new err_old err_new d f u v list wish
 
 -- ---- what is seen from an earlier moment
 
--- what two calls of a site in a row leave as it was
-pub kept_then : {S R : Type 0} (s : AnySources S R) (a b c : S) → KeepsFiles s a b → KeepsFiles s b c → KeepsFiles s a c
-kept_then s a b c first then = search rules
-
 module _ {S R W E : Type 0} (s : AnySources S R) (w : AnySink W) (e : AnySink E) (c z : S) (out_old out_new : W) (err_old err_new : E) where
   -- after the sites were pointed
   pub seen_pointed : (a b x y : S) (p q last u v end : ℕ) → KeepsFiles s a b → KeepsFiles s x y → q ≡ p → v ≡ u
@@ -241,6 +202,13 @@ pub closes_as : (list : ListRead) (named trusted other : Named) (options wish : 
     (v : LineView) → trusted ≡ other → options ≡ wish → ClosesCompared list named trusted options status site v
     → ClosesCompared list named other wish status site v
 closes_as list named trusted other options wish status site v same same_wish closes = search (rules, same_wish)
+
+no_settings_by : (files : Files) (reliable : Bool) (job : JobText) (site more : Type 0) (why : NoSettings) → (site → more)
+    → NoSettingsCause files reliable job site why → NoSettingsCause files reliable job more why
+no_settings_by files reliable job site more Memory then cause = tt
+no_settings_by files reliable job site more Unread then cause = (then cause.0, cause.1)
+no_settings_by files reliable job site more TooLarge then cause = cause
+no_settings_by files reliable job site more (Refused fault) then cause = cause
 
 stop_later : (files : Files) (is_reliable : Bool) (job : LineJobText) (site more : Type 0) (stop : EarlyStop) → (site → more)
     → StopCause files is_reliable job site stop → StopCause files is_reliable job more stop

@@ -4,5 +4,4 @@ pub mod LineAnswer
 pub mod LineEnds
 pub mod LineSession
 pub mod SettingsTold
-pub mod Trusted
 pub mod code

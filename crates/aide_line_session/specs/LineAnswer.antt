@@ -14,7 +14,8 @@ use Rattle.aide_merge.specs.Asked.{Asked}
 use Rattle.aide_merge.specs.FaultStatus.{fault_status}
 use Rattle.aide_merge.specs.Outcomes.{status_of}
 use Rattle.aide_merge.specs.RightAnswer.{Report}
-use Rattle.aide_site.specs.Answer.{Named, asked_by, limits}
+use Rattle.aide_site.specs.Answer.{AnswerOf, Named, asked_by, limits}
+use Rattle.aide_site.specs.Ends.{Written}
 use Rattle.aide_site.specs.Files.{Files}
 use Rattle.aide_site.specs.JobSettings.{AreSettings, comparison_of, no_settings_line}
 use Rattle.aide_site.specs.JobSettings.{no_settings_status}
@@ -71,12 +72,17 @@ HasBegun (all_lines text) before after = SendsPart text before after
 HasBegun (start_of_lines list asked trusted texts) before after =
     BeginsOverTexts list asked trusted texts before after
 
+-- how it is written
+abbrev pub lines_written : Written LineOutput
+lines_written = record {
+  whole = λ output before after. HasWritten output before after;
+  begun = λ output before after. HasBegun output before after;
+}
+
 -- what a session with a trusted pair writes to standard output and to standard error, and its
 -- status
-pub record LineAnswer : Type 0 where
-  pub output : LineOutput
-  pub errors : List ℕ
-  pub status : ℕ
+abbrev pub LineAnswer : Type 0
+LineAnswer = AnswerOf LineOutput
 
 -- no output, only lines on standard error, and a status
 abbrev pub refused_lines : List ℕ → ℕ → LineAnswer

@@ -5,26 +5,22 @@ use Rattle.std.specs.Io.KnownBytes.{Appends}
 use Rattle.aide_conf.specs.Settings.{Configured}
 use Rattle.aide_conf.specs.declared.options.Options.{Options}
 use Rattle.aide_db.specs.Side.{by_side}
-use Rattle.aide_db.specs.declared.fault.DbFault.{DbFault}
 use Rattle.aide_db.specs.declared.side.Side.{Side}
 use Rattle.aide_db.specs.declared.side.Side.TheVariants.{Old, New}
-use Rattle.aide_entry.specs.declared.fault_kind.DbFaultKind.TheVariants.{Read}
 use Rattle.aide_patterns.specs.List.{HasFirstFault}
 use Rattle.aide_patterns.specs.declared.fault.ListFault.{ListFault}
 use Rattle.aide_text.specs.Failures.{Rose}
 use Rattle.aide_line_run.specs.Stops.{KeepsUnopened}
 use Rattle.aide_merge.specs.RightAnswer.{IsHindered}
-use Rattle.aide_merge.specs.Openings.{IsNotGiven, IsRefusedThere, OpensAtMost, OpensExactly}
+use Rattle.aide_merge.specs.Openings.{OpensAtMost, OpensExactly}
 use Rattle.aide_merge.specs.Outcomes.{status_of}
 use Rattle.aide_merge.specs.RightAnswer.{Report}
 use Rattle.aide_merge.specs.declared.outcome.Outcome.{Outcome}
-use Rattle.aide_merge.specs.declared.run_fault.RunFault.{RunFault}
-use Rattle.aide_merge.specs.declared.run_fault.RunFault.TheVariants.{Open, Database}
 use Rattle.aide_site.specs.Answer.{Named, asked_by, limits}
-use Rattle.aide_line_session.specs.LineAnswer.{LineAnswer, HasWritten, HasBegun, pair_fault_line}
+use Rattle.aide_line_session.specs.LineAnswer.{LineAnswer, lines_written, pair_fault_line}
 use Rattle.aide_line_session.specs.LineAnswer.{pair_fault_status, trusted_of}
-use Rattle.aide_site.specs.Closing.{AreBothSound, Course, HasText, RunCause}
-use Rattle.aide_site.specs.Ends.{Failure, FailureCause, Puts, Sinks, failure_line}
+use Rattle.aide_site.specs.Closing.{AreBothSound, Course, HasText, MeansOfPair}
+use Rattle.aide_site.specs.Ends.{EndsOf, Puts, Sinks, WholeOf, of_sites, of_whose}
 use Rattle.aide_site.specs.Files.{Files}
 use Rattle.aide_site.specs.JobSettings.{HasRead, NoSettingsCause, comparison_of, no_settings_line}
 use Rattle.aide_site.specs.JobSettings.{no_settings_status}
@@ -32,8 +28,7 @@ use Rattle.aide_site.specs.declared.job_config.NoSettings.{NoSettings}
 use Rattle.aide_site.specs.declared.job_config.NoSettings.TheVariants.{Memory}
 use Rattle.aide_line_session.specs.GivenList.{IsList, IsListOf, list_line}
 use Rattle.aide_site.specs.Held.{HoldsWithin, most_held}
-use Rattle.aide_site.specs.Lines.{database_line, memory_line, open_line, outcome_lines}
-use Rattle.aide_site.specs.declared.whose.Whose.TheVariants.{Trusted}
+use Rattle.aide_site.specs.Lines.{outcome_lines}
 use Rattle.aide_text.specs.Failures.{CountsFlush}
 use Rattle.aide_line_run.specs.BeforeFault.{AreBeforeFaults, FourTexts}
 use Rattle.aide_line_run.specs.Lines.{AreAllLines}
@@ -72,57 +67,17 @@ pub record LineView : Type 0 where
 
 -- ---- how a session keeps to its answer
 
--- a failure of a device: one that a session without a trusted pair may have, or one at the trusted
--- pair
-pub data PairFailure : Type 0 where
-  of_compared : Failure → PairFailure
-  trusted_unopened : Side → PairFailure
-  trusted_unread : DbFault → PairFailure
-
--- the line of a failure
-abbrev pub pair_failure_line : (named trusted : Named) → PairFailure → List ℕ
-pair_failure_line named trusted (of_compared failure) = failure_line named failure
-pair_failure_line named trusted (trusted_unopened side) =
-    open_line Trusted side (by_side trusted.old_path trusted.new_path side)
-pair_failure_line named trusted (trusted_unread fault) = database_line Trusted fault
-
--- the cause of a failure: the first site, the site of the trusted pair or the output has counted
--- one
-abbrev pub PairFailureCause : PairFailure → (site trusted_site out : Type 0) → Type 0
-PairFailureCause (of_compared failure) site trusted_site out = FailureCause failure site out
-PairFailureCause (trusted_unopened side) site trusted_site out = trusted_site
-PairFailureCause (trusted_unread fault) site trusted_site out = (fault.kind ≡ Read) × trusted_site
-
 -- the session ends with the complete answer
-pub record WholeLines (a : LineAnswer) (status : ℕ) (sinks : Sinks) : Type 0 where
-  pub status_is : status ≡ a.status
-  pub output : HasWritten a.output sinks.out_old sinks.out_new
-  pub put : Puts a.errors sinks
-
--- the session ends out of memory, without any output
-pub record StarvedLines (status : ℕ) (sinks : Sinks) : Type 0 where
-  pub status_is : status ≡ 22
-  pub output : Appends sinks.out_old sinks.out_new []
-  pub put : Puts memory_line sinks
-
--- The session ends with a failure of a site or of the output, after the first bytes of the answer's
--- output (none, some or all).
-pub record BrokenLines (a : LineAnswer) (named trusted : Named) (status : ℕ) (sinks : Sinks)
-    (site trusted_site out : Type 0) : Type 0 where
-  pub status_is : status ≡ 18
-  pub output : HasBegun a.output sinks.out_old sinks.out_new
-  pub failure : PairFailure
-  pub cause : PairFailureCause failure site trusted_site out
-  pub put : Puts (pair_failure_line named trusted failure) sinks
+abbrev pub WholeLines : LineAnswer → ℕ → Sinks → Type 0
+WholeLines a status sinks = WholeOf lines_written a status sinks
 
 -- A session ends with the answer, out of memory, or with a failure. `site`, `trusted_site` and
 -- `out` mean that the first site, that of the trusted pair or the output has counted a failure.
 abbrev pub EndsWithin : LineAnswer → (named trusted : Named) → ℕ → Sinks
     → (site trusted_site out : Type 0)
     → Type 0
-EndsWithin a named trusted status sinks site trusted_site out = WholeLines a status sinks
-    ⊎ (StarvedLines status sinks
-    ⊎ BrokenLines a named trusted status sinks site trusted_site out)
+EndsWithin a named trusted status sinks site trusted_site out =
+    EndsOf lines_written a (of_whose named trusted) status sinks (of_sites site trusted_site) out
 
 -- ---- how a session ends over any sites
 
@@ -160,26 +115,6 @@ pub record StopsWith (line : List ℕ) (code status : ℕ) (v : LineView) : Type
   pub unflushed : v.course.flushes_after ≡ v.course.flushes_before
   pub still : v.peak_after ≡ v.peak_before
   pub trusted_still : v.trusted_peak_after ≡ v.trusted_peak_before
-
--- what the fault of a run over a reliable site means: only a file that is not there cannot be
--- opened
-abbrev pub IsOfReliableFiles : Files → Named → RunFault → Type 0
-IsOfReliableFiles files named (Open side) = (text : List ℕ) → HasText files named side text → ⊥
-IsOfReliableFiles files named (Database fault) = fault.kind ≡ Read → ⊥
-IsOfReliableFiles files named _ = ⊤
-
--- What a fault of a pair means, by the files at the paths of this pair. It means what it means in a
--- session over this pair alone.
-pub record MeansOfPair (files : Files) (named : Named) (is_reliable : Bool) (course : Course)
-    (site out : Type 0) (fault : RunFault) : Type 0 where
-  -- why the fault comes
-  pub cause : RunCause files named fault site out
-  -- a reliable site fails only at a file that is not there
-  pub reliable : is_reliable ≡ true → IsOfReliableFiles files named fault
-  -- a side that could not be opened is the one that was opened last, and its last opening was
-  -- refused
-  pub refused : IsRefusedThere course.opened_before course.opened_after fault
-  pub not_given : IsNotGiven course.given_after fault
 
 -- if one of the files of a pair is not there, nothing has been written
 abbrev pub KeepsMissingFile : Files → Named → Sinks → Type 0

@@ -9,13 +9,13 @@ use Rattle.aide_site.specs.Answer.{Named}
 use Rattle.aide_line_session.specs.LineAnswer.{LineAnswer, HasLineAnswer, IsLineAnswer}
 use Rattle.aide_line_session.specs.LineAnswer.{TellsForLines, trusted_of}
 use Rattle.aide_line_session.specs.LineEnds.{LineView, EndsLinesBy, EndsWithin}
-use Rattle.aide_line_session.specs.LineEnds.{StarvedLines, WholeLines}
-use Rattle.aide_site.specs.Ends.{HasFailed}
+use Rattle.aide_line_session.specs.LineEnds.{WholeLines}
+use Rattle.aide_site.specs.Ends.{HasFailed, Starved}
 use Rattle.aide_site.specs.Held.{HoldsWithin, most_held}
 use Rattle.aide_site.specs.Put.{HasNoFailure}
 use Rattle.aide_line_session.specs.SettingsTold.{settings_told}
 use Rattle.aide_site.specs.Session.{IsSessionBy, SessionView}
-use Rattle.aide_line_session.specs.Trusted.{trusted_at}
+use Rattle.aide_site.specs.Trusted.{trusted_at}
 use Rattle.aide_words.specs.LineJob.{LineJobText, line_job_of}
 use Rattle.aide_words.specs.Job.{JobText, job_of}
 
@@ -66,13 +66,13 @@ pub record IsLineComparison (job : LineJobText) (status : ℕ) (s t : SessionVie
       → IsLineAnswer s.files (trusted_at t.files) job named a
       → HasNoFailure s.site_before s.site_after → HasNoFailure t.site_before t.site_after
       → HasNoFailure s.out_before s.out_after
-      → WholeLines a status s.sinks ⊎ StarvedLines status s.sinks
+      → WholeLines a status s.sinks ⊎ Starved status s.sinks
   -- Over reliable sites, if the output counts no failure, the session ends with the answer to the
   -- job or out of memory.
   pub reliable : (named : Named) (a : LineAnswer)
       → IsLineAnswer s.files (trusted_at t.files) job named a
       → s.is_reliable ≡ true → t.is_reliable ≡ true → HasNoFailure s.out_before s.out_after
-      → WholeLines a status s.sinks ⊎ StarvedLines status s.sinks
+      → WholeLines a status s.sinks ⊎ Starved status s.sinks
   -- If standard error counts no failure, the lines have been passed on.
   pub passed_on : HasNoFailure s.sinks.err_before s.sinks.err_after → s.is_passed_on ≡ true
   -- If it is known what is at the paths of the named files, there is an answer.

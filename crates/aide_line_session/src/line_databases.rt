@@ -1,82 +1,28 @@
 //! Comparing the two databases that the settings name and the two of a trusted pair.
-ghost use Rattle.std.specs.Prelude.{◌≡◌, ◌≤◌, ◌⊎◌, ℕ, true, List, Some, None, OnOk};
+ghost use Rattle.std.specs.Prelude.{◌≡◌, ◌≤◌, ◌⊎◌, ℕ, List};
 ghost use Rattle.aide_merge.specs.Asked.{asked};
 ghost use Rattle.aide_text.specs.Failures.{Rose};
 ghost use Rattle.aide_line_session.specs.LineEnds.{ClosesCompared, StopsWith};
 ghost use Rattle.aide_line_session.specs.LineEnds.{compared_line, compared_status};
 ghost use Rattle.aide_site.specs.Lines.{memory_line};
 ghost use Rattle.aide_site.specs.Put.{PutOn};
-ghost use Rattle.aide_site.specs.Pointing.{KeepsFiles, KeepsOthers};
-ghost use Rattle.aide_line_session.specs.Trusted.{trusted_at};
-ghost use Rattle.aide_line_session.specs.code.LineParts.{IsPointed, files_of, line_view_between};
-ghost use Rattle.aide_line_session.specs.code.LineParts.{lent_pair, named_by};
-ghost use Rattle.aide_site.specs.code.Parts.{AreSame};
+ghost use Rattle.aide_site.specs.Trusted.{trusted_at};
+ghost use Rattle.aide_line_session.specs.code.LineParts.{lent_pair, line_view_between};
+ghost use Rattle.aide_site.specs.code.Parts.{AreSame, IsPointed, named_by};
 ghost use Rattle.aide_line_run.specs.ListView.{list_read};
 ghost use Rattle.aide_line_run.specs.SamePair.{AreSamePair};
 
 use crate::as_line::AsLine;
 use aide_conf::Task;
-use aide_db::{Desk, Side};
 use aide_line_run::{PairFault, Tasks, TrustedPair, run_lines};
 use aide_merge::Outcome;
 use aide_site::{
-    Devices, LIMITS, LONGEST, Site, SiteWithDesk, Status, Whose, put_memory_line,
+    Devices, LIMITS, Site, SiteWithDesk, Status, Whose, prepare, put_memory_line,
     put_outcome_lines, put_run_fault,
 };
 use aide_text::Sink;
 use aide_words::Memory;
 use std::alloc::Global;
-
-/// Points a side of a site at its database. For the trusted pair the empty path stands for the
-/// empty database.
-#[tactic(auto, unfolding(crate::specs::Trusted::trusted_at))]
-fn point_side<S: Site>(
-    alloc: Global,
-    site: &mut S,
-    side: Side,
-    path: &str,
-    is_trusted: bool,
-) -> Result<(), Memory>
-    ensures pointed { OnOk result ((bytes : List ℕ)
-        → files_of is_trusted (S.file_at site.old) path.now ≡ Some (Some bytes)
-        → S.bytes_of site.new side ≡ Some bytes) }
-    ensures gone { OnOk result (files_of is_trusted (S.file_at site.old) path.now ≡ Some None
-        → S.is_missing site.new side ≡ true) }
-    ensures others { OnOk result (KeepsOthers S.Sources S.path_of side site.old site.new) }
-    ensures keeps { KeepsFiles S.Sources site.old site.new }
-{
-    if is_trusted && path.is_empty() {
-        site.point_at_empty(side);
-        return Ok(());
-    }
-    site.point(alloc, side, path)
-}
-
-/// Points a site at the databases of its pair, and reserves what a comparison may hold of them.
-fn prepare<S: Site>(
-    alloc: Global,
-    desk: &mut Desk<Global>,
-    site: &mut S,
-    task: &Task<'_>,
-    is_trusted: bool,
-) -> Result<(), Memory>
-    ensures keeps { KeepsFiles S.Sources site.old site.new }
-    ensures peak { desk.new.peak ≡ desk.old.peak }
-    ensures room { OnOk result (1048576 ≤ desk.new.room) }
-    ensures pointed { OnOk result (IsPointed (files_of is_trusted (S.file_at site.old))
-        (asked task.now) (S.bytes_of site.new) (S.is_missing site.new)) }
-{
-    if let Err(Memory) = point_side(alloc, site, Side::Old, task.old_path, is_trusted) {
-        return Err(Memory);
-    }
-    if let Err(Memory) = point_side(alloc, site, Side::New, task.new_path, is_trusted) {
-        return Err(Memory);
-    }
-    let Ok(()) = desk.reserve(LONGEST) else {
-        return Err(Memory);
-    };
-    Ok(())
-}
 
 /// Puts what a comparison has to say on standard error, and returns the exit status.
 fn put_end<E: Sink>(err: &mut E, tasks: &Tasks<'_>, end: Result<Outcome, PairFault>) -> u8
@@ -157,7 +103,7 @@ pub(crate) fn compare_lines<S: Site, W: Sink, E: Sink>(
         devices.desk,
         devices.site,
         tasks.compared,
-        false,
+        Whose::Compared,
     ) {
         put_memory_line(devices.err);
         return Status::Memory as u8;
@@ -167,7 +113,7 @@ pub(crate) fn compare_lines<S: Site, W: Sink, E: Sink>(
         &mut trusted.desk,
         &mut trusted.site,
         tasks.trusted,
-        true,
+        Whose::Trusted,
     ) {
         put_memory_line(devices.err);
         return Status::Memory as u8;

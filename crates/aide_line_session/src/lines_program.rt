@@ -4,14 +4,13 @@ ghost use Rattle.aide_entry.specs.Count.{one_more};
 ghost use Rattle.aide_patterns.specs.List.{HasFirstFault, HasRules};
 ghost use Rattle.aide_patterns.specs.declared.fault.ListFault.{ListFault};
 ghost use Rattle.aide_line_session.specs.LineEnds.{EndsLinesBy};
-ghost use Rattle.aide_site.specs.Answer.{IsAnswerBy};
 ghost use Rattle.aide_line_session.specs.LineSession.{IsLineSession, check_job_of};
 ghost use Rattle.aide_line_session.specs.GivenList.{IsListOf};
 ghost use Rattle.aide_line_session.specs.SettingsTold.{settings_told};
 ghost use Rattle.aide_site.specs.Session.{view_between};
 ghost use Rattle.aide_line_session.specs.code.LineParts.{RunsAlone, line_view_between};
 ghost use Rattle.aide_line_session.specs.code.LineParts.{peaks_between, trusted_between};
-ghost use Rattle.aide_site.specs.code.Parts.{AreSame, ClosesFor, EndsWith, part_between};
+ghost use Rattle.aide_site.specs.code.Parts.{AreSame, ClosesFor, part_between};
 ghost use Rattle.aide_line_run.specs.ListView.{list_read};
 ghost use Rattle.aide_words.specs.LineJob.{LineJobText, line_job_of, text_of_line_job};
 
@@ -130,9 +129,6 @@ fn run_check_words<S: Site, W: Sink, E: Sink>(
     devices: &mut Devices<'_, AsLine, S, W, E>,
 ) -> u8
     ensures same { AreSame devices.old devices.new }
-    ensures ends { EndsWith
-        (λ files. IsAnswerBy (Some settings_told) files (check_job_of words.now))
-        result (part_between S.Sources W.Sink E.Sink devices.old devices.new) }
     ensures closes { ClosesFor (Some settings_told) (check_job_of words.now) result
         (part_between S.Sources W.Sink E.Sink devices.old devices.new) }
     ensures lookups { S.lookups devices.new.site.now ≤ one_more (S.lookups devices.old.site.now) }

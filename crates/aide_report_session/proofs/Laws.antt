@@ -1,6 +1,6 @@
 -- What the answer to arguments is, step by step, from what a caller knows of them and of the files, and that there is one
 -- and only one.
-use Rattle.std.specs.Prelude.{◌≡◌, ◌≤◌, ℕ, Option, Some, None, List, [], ◌∷◌, Result, Ok, Bool, true}
+use Rattle.std.specs.Prelude.{◌≡◌, ◌≤◌, ℕ, Option, Some, None, List, [], ◌∷◌, Result, Ok, Err, Bool, true}
 use Rattle.std.specs.Io.KnownBytes.{append_known}
 use Rattle.std.proofs.Common.{refl, sym, ap, append-nil, arith, rules}
 use Rattle.std.proofs.Math.Path.{subst}
@@ -18,9 +18,7 @@ use Rattle.aide_report_specs.specs.Runs.{Runs}
 use Rattle.aide_site.specs.Answer.{Answer, Named, limits, asked_by, answer_of_run, Compares, IsAnswerBy, IsJobAnswerBy}
 use Rattle.aide_site.specs.Answer.{IsSettingsAnswerBy}
 use Rattle.aide_report_session.specs.Asks.{Asks}
-use Rattle.aide_site.specs.Closing.{ClosesBy, Closing, ClosingOpens, ClosingOutput, Course, closing_status}
-use Rattle.aide_site.specs.Closing.{bad_run, good_config, good_run, no_settings}
-use Rattle.aide_site.specs.Ends.{Sinks}
+use Rattle.aide_site.specs.Closing.{Closing, ClosingDoes, Course, closing_status, compared, good_config, no_settings}
 use Rattle.aide_site.specs.Existence.{HasSessionAnswerBy, TellsNamed}
 use Rattle.aide_site.specs.Files.{Files}
 use Rattle.aide_site.specs.JobSettings.{AreOfText, ReadsJobAs, need_of, no_settings_status}
@@ -28,6 +26,7 @@ use Rattle.aide_site.specs.declared.job_config.NoSettings.{NoSettings}
 use Rattle.aide_site.specs.declared.job_config.NoSettings.TheVariants.{Memory}
 use Rattle.aide_site.specs.Page.{Paged, known_of, none_waits}
 use Rattle.aide_site.specs.Says.{Says}
+use Rattle.aide_site.specs.Session.{IsSessionBy, SessionView}
 use Rattle.aide_words.specs.Job.{JobText, job_of}
 use Rattle.aide_site.proofs.Existence.{answered}
 use Rattle.aide_report_session.proofs.Uniqueness.{one_answer}
@@ -105,19 +104,21 @@ none_opened : (course : Course) → course.opened_after ≡ course.opened_before
 none_opened course same = λ side number other text more is also.
     let count = ap (λ opened. opened side) same in absurd (omega (arith, count, is.since, is.until))
 
-one_digest_at : (says : Says) (files : Files) (named : Named) (closing : Closing) (course : Course) (c d : Option (List ℕ))
-    → closing_status closing ≤ 7 → ClosingOutput says named closing course c d → ClosingOpens files named closing course
+one_digest_at : (says : Says) (files : Files) (reliable : Bool) (named : Named) (closing : Closing) (course : Course)
+    (c d : Option (List ℕ)) (site out : Type 0) → closing_status closing ≤ 7
+    → ClosingDoes says files reliable named closing course c d site out
     → GiveOneDigest course.gives_after course.opened_before course.opened_after
-one_digest_at says files named (good_run options outcome) course c d low output opens = opens.1
-one_digest_at says files named (good_config s) course c d low output opens = none_opened course output.1
-one_digest_at says files named (bad_run options fault) course c d low output opens = absurd (no_fault_so_low fault low)
-one_digest_at says files named (no_settings why) course c d low output opens = absurd (no_stop_so_low why low)
-one_digest_at says files named _ course c d low output opens = absurd (omega (arith, low))
+one_digest_at says files reliable named (compared options (Ok outcome)) course c d site out low does = does.agreed
+one_digest_at says files reliable named (compared options (Err fault)) course c d site out low does = absurd (no_fault_so_low fault low)
+one_digest_at says files reliable named (good_config s) course c d site out low does = none_opened course does.1
+one_digest_at says files reliable named (no_settings why) course c d site out low does = absurd (no_stop_so_low why low)
+one_digest_at says files reliable named _ course c d site out low does = absurd (omega (arith, low))
 
 -- If a session ends with a status of at most 7, all openings of a side gave bytes of one SHA-256: by its clause `closes`.
-pub a_good_status_means_one_digest : (says : Says) (files : Files) (wanted : Option JobText) (status : ℕ) (sinks : Sinks)
-    (course : Course) (site out : Type 0) → ClosesBy says files wanted status sinks course site out → status ≤ 7
-    → GiveOneDigest course.gives_after course.opened_before course.opened_after
-a_good_status_means_one_digest says files wanted status sinks course site out closes low =
-    one_digest_at says files closes.named closes.closing course sinks.out_old sinks.out_new
-    (subst (λ (k : ℕ). k ≤ 7) closes.status_is low) closes.output closes.opens
+pub a_good_status_means_one_digest : (says : Says) (wanted : Option JobText) (status : ℕ) (s : SessionView)
+    → IsSessionBy says wanted status s → status ≤ 7
+    → GiveOneDigest s.course.gives_after s.course.opened_before s.course.opened_after
+a_good_status_means_one_digest says wanted status s session low =
+    let closes = session.closes in
+    one_digest_at says s.files s.is_reliable closes.named closes.closing s.course s.sinks.out_old s.sinks.out_new _ _
+    (subst (λ (k : ℕ). k ≤ 7) closes.status_is low) closes.does

@@ -1,3 +1,3 @@
 pub mod Laws
-mod RunEndings
+mod RunParts
 mod Uniqueness

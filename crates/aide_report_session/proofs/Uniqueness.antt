@@ -12,7 +12,7 @@ use Rattle.aide_site.specs.declared.job_config.NoSettings.{NoSettings}
 use Rattle.aide_site.proofs.AnswerSteps.{one_file, one_settings}
 use Rattle.aide_site.specs.Says.{Says}
 use Rattle.aide_words.specs.Job.{JobText}
-use Rattle.aide_report_session.proofs.RunEndings.{answer_by, compared_by}
+use Rattle.aide_site.proofs.ClosingEnds.{answer_by, compared_by}
 use Rattle.aide_site.proofs.Endings.{same_some}
 
 module _ (says : Says) (files : Files) where

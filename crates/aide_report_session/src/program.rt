@@ -3,7 +3,7 @@ ghost use Rattle.std.specs.Prelude.{◌≡◌, ◌≤◌, Option, Some, None, tr
 ghost use Rattle.aide_entry.specs.Count.{one_more};
 ghost use Rattle.aide_site.specs.Answer.{IsAnswerBy, IsJobAnswerBy};
 ghost use Rattle.aide_site.specs.Session.{HoldsBy, IsSessionBy, view_between};
-ghost use Rattle.aide_site.specs.code.Parts.{AreSame, ClosesFor, EndsWith, HoldsWith};
+ghost use Rattle.aide_site.specs.code.Parts.{AreSame, ClosesFor, HoldsWith};
 ghost use Rattle.aide_site.specs.code.Parts.{KeepsPeak, part_between};
 ghost use Rattle.aide_words.specs.Job.{JobText, job_of, text_of_job};
 
@@ -25,8 +25,6 @@ fn compare_job<S: Site, W: Sink, E: Sink>(
 ) -> u8
     requires { job.now.compare ≡ true }
     ensures same { AreSame devices.old devices.new }
-    ensures ends { EndsWith (λ files. IsJobAnswerBy None files (text_of_job job.now)) result
-        (part_between S.Sources W.Sink E.Sink devices.old devices.new) }
     ensures closes { (wanted : Option JobText) → wanted ≡ Some (text_of_job job.now)
         → ClosesFor None wanted result
         (part_between S.Sources W.Sink E.Sink devices.old devices.new) }
@@ -48,8 +46,6 @@ pub(crate) fn run_words<S: Site, W: Sink, E: Sink>(
     devices: &mut Devices<'_, Silent, S, W, E>,
 ) -> u8
     ensures same { AreSame devices.old devices.new }
-    ensures ends { EndsWith (λ files. IsAnswerBy None files (job_of words.now)) result
-        (part_between S.Sources W.Sink E.Sink devices.old devices.new) }
     ensures closes { ClosesFor None (job_of words.now) result
         (part_between S.Sources W.Sink E.Sink devices.old devices.new) }
     ensures lookups { S.lookups devices.new.site.now ≤ one_more (S.lookups devices.old.site.now) }

@@ -1,20 +1,34 @@
 -- How a session ends.
 use Rattle.std.proofs.Common.{◌≡◌, ◌∙◌, ℕ, ◌≤◌, List, [], Option, Some, None, refl, sym, ap, arith, Bool, true, false}
-use Rattle.std.proofs.Common.{inl, inr, ◌⊎◌, rules}
-use Rattle.std.specs.Prelude.{unwrap_or}
-use Rattle.std.specs.Io.KnownBytes.{Appends, Keeps}
+use Rattle.std.proofs.Common.{inl, inr, ◌⊎◌}
+use Rattle.std.specs.Prelude.{IsSome, unwrap_or}
+use Rattle.std.specs.Io.KnownBytes.{Appends}
 use Rattle.std.proofs.Math.Path.{subst}
-use Rattle.aide_conf.specs.Settings.{Configured}
+use Rattle.aide_db.specs.Side.{by_side}
+use Rattle.aide_db.specs.declared.side.Side.{Side}
+use Rattle.aide_db.specs.declared.side.Side.TheVariants.{Old, New}
+use Rattle.aide_entry.specs.Cause.{is_memory}
+use Rattle.aide_entry.specs.declared.fault_kind.DbFaultKind.{DbFaultKind}
+use Rattle.aide_entry.specs.declared.fault_kind.DbFaultKind.TheVariants.{Memory, Read}
+use Rattle.aide_merge.specs.FaultStatus.{fault_status, kind_status}
+use Rattle.aide_merge.specs.RightAnswer.{Causes, IsHindered}
+use Rattle.aide_merge.specs.declared.run_fault.RunFault.{RunFault}
+use Rattle.aide_merge.specs.declared.run_fault.RunFault.TheVariants.{Open, Database, Changed, Write}
 use Rattle.aide_text.specs.Failures.{Rose}
 use Rattle.aide_text.specs.Sent.{SendsPart}
-use Rattle.aide_site.specs.Answer.{Answer, Named, refused, checked_by}
-use Rattle.aide_site.specs.Closing.{IsTold, IsUntold}
-use Rattle.aide_site.specs.Ends.{Sinks, Failure, failure_line, FailureCause, HasFailed, Ends, Whole, Starved}
+use Rattle.aide_site.specs.Answer.{AnswerOf, Named}
+use Rattle.aide_site.specs.Closing.{Course, HasText, MeansOfPair}
+use Rattle.aide_site.specs.Ends.{EndsOf, Failure, FailureCause, Puts, Sinks, Starved, WholeOf, Written, failure_line, of_sites}
 use Rattle.aide_site.specs.Ends.{config_unread, unopened, unread, unwritten}
-use Rattle.aide_site.specs.Lines.{memory_line, write_line}
-use Rattle.aide_site.specs.Says.{Says}
-use Rattle.aide_site.specs.Put.{HasNoFailure, Put}
-use Rattle.aide_site.proofs.PutLemmas.{appends_none, put_none, put_passed}
+use Rattle.aide_site.specs.Files.{Files}
+use Rattle.aide_site.specs.JobSettings.{no_settings_line, no_settings_status}
+use Rattle.aide_site.specs.Lines.{kind_line, run_fault_line}
+use Rattle.aide_site.specs.Put.{HasNoFailure}
+use Rattle.aide_site.specs.declared.job_config.NoSettings.{NoSettings}
+use Rattle.aide_site.specs.declared.job_config.NoSettings.TheVariants as no
+use Rattle.aide_site.specs.declared.whose.Whose.{Whose}
+use Rattle.aide_site.specs.declared.whose.Whose.TheVariants.{Compared, Trusted}
+use Rattle.aide_site.proofs.PutLemmas.{put_as}
 
 abbrev pub sinks : (c d e f : Option (List ℕ)) → (m n : ℕ) → Sinks
 sinks c d e f m n = record { out_old = c; out_new = d; err_old = e; err_new = f; err_before = m; err_after = n }
@@ -22,72 +36,6 @@ sinks c d e f m n = record { out_old = c; out_new = d; err_old = e; err_new = f;
 -- nothing is a beginning of anything
 pub none_starts : (text : List ℕ) (c d : Option (List ℕ)) → Appends c d [] → SendsPart text c d
 none_starts text c d bytes = record { front = []; rest = text; whole = refl; bytes = bytes }
-
--- an answer that is a line and a status
-pub ends_refused : (a : Answer) (named : Named) (line : List ℕ) (status : ℕ) (d e f : Option (List ℕ)) (m n : ℕ) (site out : Type 0)
-    → a ≡ refused line status → Put line e f m n
-    → Ends a named status (sinks d d e f m n) site out
-ends_refused a named line status d e f m n site out is put = search (rules, appends_none)
-
--- want of memory before anything went out
-pub ends_starved : (a : Answer) (named : Named) (d e f : Option (List ℕ)) (m n : ℕ) (site out : Type 0)
-    → Put memory_line e f m n
-    → Ends a named 22 (sinks d d e f m n) site out
-ends_starved a named d e f m n site out put =
-    inr (inl (record { status_is = refl; output = appends_none d; put = put }))
-
--- a failure before anything went out
-pub ends_broken : (a : Answer) (named : Named) (failure : Failure) (d e f : Option (List ℕ)) (m n : ℕ) (site out : Type 0)
-    → FailureCause failure site out
-    → Put (failure_line named failure) e f m n → Ends a named 18 (sinks d d e f m n) site out
-ends_broken a named failure d e f m n site out cause put =
-    inr (inr (record { status_is = refl; output = none_starts a.output d d (appends_none d); failure = failure; cause = cause; put = put }))
-
--- what is said of an accepted configuration has gone out
-pub ends_told : (says : Says) (s : Configured) (a : Answer) (named : Named) (c d e : Option (List ℕ)) (m : ℕ)
-    (is_flushed : Bool) (k l : ℕ) (site out : Type 0)
-    → a ≡ checked_by says s → IsTold says s c d is_flushed k l
-    → Ends a named 0 (sinks c d e e m m) site out
-ends_told None s a named c d e m is_flushed k l site out is told = search (rules, put_none)
-ends_told (Some says) s a named c d e m is_flushed k l site out is told = search (rules, put_none)
-
--- it could not be written
-pub ends_untold : (says : Says) (s : Configured) (a : Answer) (named : Named) (c d e f : Option (List ℕ))
-    (m n k l : ℕ) (site out : Type 0)
-    → a ≡ checked_by says s → IsUntold says s c d k l → out → Put write_line e f m n
-    → Ends a named 18 (sinks c d e f m n) site out
-ends_untold None s a named c d e f m n k l site out is untold rose put = absurd untold
-ends_untold (Some says) s a named c d e f m n k l site out is untold rose put = search rules
-
-cause_by : (failure : Failure) (site more out : Type 0) → (site → more) → FailureCause failure site out
-    → FailureCause failure more out
-cause_by config_unread site more out then cause = then cause
-cause_by (unopened side) site more out then cause = then cause
-cause_by (unread fault) site more out then cause = (cause.0, then cause.1)
-cause_by unwritten site more out then cause = cause
-
--- the same ending for a cause that follows
-pub ends_by : (a : Answer) (named : Named) (status : ℕ) (s : Sinks) (site more out : Type 0) → (site → more)
-    → Ends a named status s site out → Ends a named status s more out
-ends_by a named status s site more out then ends = search (rules, cause_by)
-
-no_cause : (failure : Failure) (site out : Type 0) → (site → ⊥) → (out → ⊥) → FailureCause failure site out → ⊥
-no_cause config_unread site out unfailed_site unfailed_out cause = unfailed_site cause
-no_cause (unopened side) site out unfailed_site unfailed_out cause = unfailed_site cause
-no_cause (unread fault) site out unfailed_site unfailed_out cause = unfailed_site cause.1
-no_cause unwritten site out unfailed_site unfailed_out cause = unfailed_out cause
-
--- an ending without a failure
-pub ends_unfailed : (a : Answer) (named : Named) (status : ℕ) (s : Sinks) (site out : Type 0) → (site → ⊥) → (out → ⊥)
-    → Ends a named status s site out
-    → Whole a status s ⊎ Starved a status s
-ends_unfailed a named status s site out unfailed_site unfailed_out ends = search (rules, no_cause)
-
-pub no_failure_never_rose : (m n : ℕ) → HasNoFailure m n → Rose m n → ⊥
-no_failure_never_rose m n unfailed rose = let h = rose unfailed.1 in omega (arith, h, unfailed.0)
-
-pub rose_later : (m k n : ℕ) → m ≤ k → Rose k n → Rose m n
-rose_later m k n h rose = λ below. let later = rose below in omega (arith, h, later)
 
 -- no Bool is both
 pub true_is_not_false : true ≡ false → ⊥
@@ -103,42 +51,101 @@ pub by_reliable : (b : Bool) (P : Type 0) → (b ≡ true → P) → (b ≡ fals
 by_reliable true P f g = f refl
 by_reliable false P f g = g refl
 
+pub no_failure_never_rose : (m n : ℕ) → HasNoFailure m n → Rose m n → ⊥
+no_failure_never_rose m n unfailed rose = let h = rose unfailed.1 in omega (arith, h, unfailed.0)
+
+pub rose_later : (m k n : ℕ) → m ≤ k → Rose k n → Rose m n
+rose_later m k n h rose = λ below. let later = rose below in omega (arith, h, later)
+
 pub same_some : (o : Option (List ℕ)) (x y : List ℕ) → o ≡ Some x → o ≡ Some y → x ≡ y
 same_some o x y p q =
     sym (ap (λ (k : Option (List ℕ)). unwrap_or k []) p) ∙ ap (λ (k : Option (List ℕ)). unwrap_or k []) q
 
--- the same ending for an answer that is equal
-pub ends_as : (a b : Answer) (named : Named) (status : ℕ) (s : Sinks) (site out : Type 0) → a ≡ b
-    → Ends b named status s site out → Ends a named status s site out
-ends_as a b named status s site out is ends = subst (λ (x : Answer). Ends x named status s site out) (sym is) ends
+-- ---- from the answer to a session that keeps to it
 
--- a failure that was counted after a call that kept the site as reliable as it was
-pub failed_later : (reliable later_reliable : Bool) (count later_count end : ℕ) → later_reliable ≡ reliable
-    → count ≤ later_count → HasFailed later_reliable later_count end
-    → HasFailed reliable count end
-failed_later reliable later_reliable count later_count end same more failed =
-    (sym same ∙ failed.0, rose_later count later_count end more failed.1)
+no_cause : (failure : Failure) (site : Whose → Type 0) (out : Type 0) → ((whose : Whose) → site whose → ⊥) → (out → ⊥)
+    → FailureCause failure site out → ⊥
+no_cause config_unread site out unfailed unfailed_out cause = unfailed Compared cause
+no_cause (unopened whose side) site out unfailed unfailed_out cause = unfailed whose cause
+no_cause (unread whose fault) site out unfailed unfailed_out cause = unfailed whose cause.1
+no_cause unwritten site out unfailed unfailed_out cause = unfailed_out cause
 
--- an ending where neither the site nor the output has counted a failure
-pub ends_exactly : (a : Answer) (named : Named) (reliable : Bool) (status : ℕ) (s : Sinks) (m n k l : ℕ) → HasNoFailure m n
-    → HasNoFailure k l → Ends a named status s (HasFailed reliable m n) (Rose k l)
-    → Whole a status s ⊎ Starved a status s
-ends_exactly a named reliable status s m n k l unfailed_site unfailed_out ends = search (rules, ends_unfailed, no_failure_never_rose)
+-- what is so at neither site
+pub of_both : (site trusted_site : Type 0) → (site → ⊥) → (trusted_site → ⊥) → (whose : Whose) → of_sites site trusted_site whose → ⊥
+of_both site trusted_site none trusted_none Compared is = none is
+of_both site trusted_site none trusted_none Trusted is = trusted_none is
 
--- an ending where the site is reliable and the output has counted no failure
-pub ends_reliably : (a : Answer) (named : Named) (reliable : Bool) (status : ℕ) (s : Sinks) (m n k l : ℕ)
-    → reliable ≡ true → HasNoFailure k l → Ends a named status s (HasFailed reliable m n) (Rose k l)
-    → Whole a status s ⊎ Starved a status s
-ends_reliably a named reliable status s m n k l is unfailed_out ends =
-    search (rules, ends_unfailed, true_is_not_false, no_failure_never_rose)
+-- a fault that hinders, and is no want of memory, is a failed read
+read_failed : (kind : DbFaultKind) (rose : Type 0) → is_memory kind ≡ false → Causes kind rose ⊥ → (kind ≡ Read) × rose
+read_failed Read rose fed cause = (refl, cause)
+read_failed Memory rose fed cause = absurd (true_is_not_false fed)
+read_failed kind rose fed cause = absurd cause
 
--- the same ending by a status that is equal
-pub ends_status : (a : Answer) (named : Named) (status put : ℕ) (s : Sinks) (site out : Type 0) → status ≡ put
-    → Ends a named put s site out → Ends a named status s site out
-ends_status a named status put s site out same ends = subst (λ (n : ℕ). Ends a named n s site out) (sym same) ends
+-- what is there has a text
+there : (known : Option (Option (List ℕ))) (file : Option (List ℕ)) → known ≡ Some file → IsSome file
+    → ((text : List ℕ) → known ≡ Some (Some text) → ⊥) → ⊥
+there known None told some none = cc
+there known (Some text) told some none = none text told
 
--- the same ending once its lines are passed on
-pub ends_passed : (a : Answer) (named : Named) (status : ℕ) (c d e f g : Option (List ℕ)) (m n k : ℕ) (site out : Type 0)
-    → Keeps f g → n ≤ k
-    → Ends a named status (sinks c d e f m n) site out → Ends a named status (sinks c d e g m k) site out
-ends_passed a named status c d e f g m n k site out kept more ends = search (rules, put_passed)
+there_side : (files : Files) (pair : Named) (old new : Option (List ℕ)) (side : Side) → files pair.old_path ≡ Some old
+    → files pair.new_path ≡ Some new
+    → IsSome (by_side old new side) → ((text : List ℕ) → HasText files pair side text → ⊥) → ⊥
+there_side files pair old new Old told_old told_new some none = there (files pair.old_path) old told_old some none
+there_side files pair old new New told_old told_new some none = there (files pair.new_path) new told_new some none
+
+module _ {O : Type 0} (w : Written O) (a : AnswerOf O) (named : Whose → Named) (status : ℕ) (s : Sinks) (site : Whose → Type 0)
+    (out : Type 0) where
+  abbrev Ended : Type 0
+  Ended = EndsOf w a named status s site out
+
+  -- an ending without a failure
+  pub ends_unfailed : ((whose : Whose) → site whose → ⊥) → (out → ⊥) → Ended → WholeOf w a status s ⊎ Starved status s
+  ends_unfailed unfailed unfailed_out ends = elim ends [
+    | inl whole ↦ inl whole
+    | inr other ↦ elim other [
+      | inl starved ↦ inr starved
+      | inr broken ↦ absurd (no_cause broken.failure site out unfailed unfailed_out broken.cause)
+    ]
+  ]
+
+  -- an ending with an answer that is equal
+  pub whole_as : (b : AnswerOf O) → a ≡ b → WholeOf w b status s → Ended
+  whole_as b same whole = inl (subst (λ (x : AnswerOf O). WholeOf w x status s) (sym same) whole)
+
+  -- want of memory
+  pub starved_for : (path : List ℕ) (why : NoSettings) → why ≡ no.Memory → status ≡ no_settings_status why
+      → Appends s.out_old s.out_new [] → Puts (no_settings_line path why) s
+      → Ended
+  starved_for path why memory status_is none put = inr (inl (record {
+    status_is = status_is ∙ ap no_settings_status memory;
+    output = none;
+    put = put_as _ _ (ap (no_settings_line path) memory) put;
+  }))
+
+  module _ (begun : w.begun a.output s.out_old s.out_new) where
+    pub broken : (failure : Failure) → status ≡ 18 → FailureCause failure site out → Puts (failure_line named failure) s → Ended
+    broken failure status_is cause put =
+        inr (inr (record { status_is = status_is; output = begun; failure = failure; cause = cause; put = put }))
+
+    -- a run over a pair that a fault kept from its answer
+    pub hindered : (whose : Whose) (files : Files) (reliable : Bool) (course : Course) (rose sink : Type 0) (fault : RunFault)
+        (old new : Option (List ℕ))
+        → ((reliable ≡ false) × rose → site whose) → (sink → out)
+        → files (named whose).old_path ≡ Some old → files (named whose).new_path ≡ Some new → status ≡ fault_status fault
+        → Puts (run_fault_line whose (named whose).old_path (named whose).new_path fault) s
+        → MeansOfPair files (named whose) reliable course rose sink fault → IsHindered old new rose sink fault
+        → Ended
+    hindered whose files reliable course rose sink (Open side) old new failed unsent told_old told_new status_is put means why =
+        broken (unopened whose side) status_is (failed (
+          never_true reliable (λ is. there_side files (named whose) old new side told_old told_new why.0 (means.reliable is)),
+          why.1,
+        )) put
+    hindered whose files reliable course rose sink (Database fault) old new failed unsent told_old told_new status_is put means why =
+        let read = read_failed fault.kind rose means.cause.2 why.1 in
+        broken (unread whose fault) (status_is ∙ ap kind_status read.0)
+        (read.0, failed (never_true reliable (λ is. means.reliable is read.0), read.1))
+        (put_as _ _ (ap (kind_line whose fault) read.0) put)
+    hindered whose files reliable course rose sink (Changed side) old new failed unsent told_old told_new status_is put means why =
+        absurd why
+    hindered whose files reliable course rose sink (Write written) old new failed unsent told_old told_new status_is put means why =
+        broken unwritten status_is (unsent why) put

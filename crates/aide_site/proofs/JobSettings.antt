@@ -1,5 +1,6 @@
 -- The settings of a job, and what follows if it has none.
-use Rattle.std.proofs.Common.{◌≡◌, ◌⊎◌, ℕ, List, Option, Some, None, Ok, Err, Bool, true, false, ap, inl, inr, refl, sym, rules}
+use Rattle.std.proofs.Common.{◌≡◌, ◌∙◌, ◌⊎◌, ℕ, List, [], Option, Some, None, Ok, Err, Bool, true, false, ap, inl, inr, refl, rules}
+use Rattle.std.specs.Io.KnownBytes.{Appends}
 use Rattle.std.specs.Prelude.{Result, IfOk, IfErr, IsSome}
 use Rattle.std.proofs.Math.Path.{subst}
 use Rattle.aide_conf.proofs.Laws.{what_is_compared_is_named}
@@ -9,20 +10,18 @@ use Rattle.aide_conf.specs.Settings.{Configured}
 use Rattle.aide_conf.specs.declared.fault.ConfFault.{ConfFault}
 use Rattle.aide_conf.specs.declared.fault.ConfFaultKind.TheVariants as conf
 use Rattle.aide_conf.specs.declared.task.Need.{Need}
-use Rattle.aide_site.specs.Answer.{Answer, IsJobAnswerBy, Named}
-use Rattle.aide_site.specs.Closing.{ClosesBy, Course}
-use Rattle.aide_site.specs.Ends.{Ends, config_unread}
+use Rattle.aide_site.specs.Answer.{AnswerOf, Named}
+use Rattle.aide_site.specs.Ends.{EndsOf, Puts, Sinks, Written, config_unread}
 use Rattle.aide_site.specs.Files.{Files, IsLarge, is_too_large}
-use Rattle.aide_site.specs.Put.{Put}
-use Rattle.aide_site.specs.Says.{Says}
+use Rattle.aide_site.specs.declared.whose.Whose.{Whose}
+use Rattle.aide_site.specs.declared.whose.Whose.TheVariants.{Compared}
 use Rattle.aide_site.specs.JobSettings.{AreOfFile, AreOfText, AreSettings, HasRead, IsNotOfText, NoSettingsCause, ReadsJobAs}
 use Rattle.aide_site.specs.JobSettings.{need_of, no_settings_line, no_settings_status}
 use Rattle.aide_site.specs.declared.job_config.NoSettings.{NoSettings}
 use Rattle.aide_site.specs.declared.job_config.NoSettings.TheVariants.{Memory, Unread, TooLarge, Refused}
-use Rattle.aide_site.proofs.AnswerSteps.{one_file, read_is, settings_answer}
-use Rattle.aide_site.proofs.Closings.{closes_stopped}
-use Rattle.aide_site.proofs.Endings.{by_reliable, ends_refused, none_starts, sinks, true_is_not_false}
-use Rattle.aide_site.proofs.PutLemmas.{appends_none, put_as}
+use Rattle.aide_site.proofs.AnswerSteps.{one_file, read_is}
+use Rattle.aide_site.proofs.Endings.{broken, by_reliable, starved_for}
+use Rattle.aide_site.proofs.PutLemmas.{put_as}
 use Rattle.aide_words.specs.Job.{JobText}
 
 -- ---- what the texts of a job read as
@@ -103,55 +102,20 @@ stopped files reliable job site TooLarge settings cause are =
     inr (inl (of_large job are.file settings (cause are.file are.known) are.are))
 stopped files reliable job site (Refused fault) settings cause are = inr (inl (read_is files job (Err fault) settings cause are))
 
--- nothing is said of a site that need not be reliable
-unsure : (files : Files) (reliable : Bool) (job : JobText) (site : Type 0) (why : NoSettings)
-    → NoSettingsCause files reliable job site why → NoSettingsCause files false job site why
-unsure files reliable job site Memory cause = tt
-unsure files reliable job site Unread cause = (cause.0, λ is. absurd (true_is_not_false (sym is)))
-unsure files reliable job site TooLarge cause = cause
-unsure files reliable job site (Refused fault) cause = cause
-
-module _ (says : Says) (files : Files) (job : JobText) (d e f : Option (List ℕ)) (m n : ℕ) where
-  -- it ends with the answer to its job, or is kept from it
-  pub ends_without : (reliable : Bool) (rose out : Type 0) (why : NoSettings) (named : Named) (a : Answer)
-      → NoSettingsCause files reliable job rose why → Put (no_settings_line job.config why) e f m n
-      → IsJobAnswerBy says files job named a
-      → Ends a named (no_settings_status why) (sinks d d e f m n) ((reliable ≡ false) × rose) out
-  ends_without reliable rose out why named a cause put is =
-      let told : Put (no_settings_line named.config why) e f m n =
-      put_as _ _ (ap (λ path. no_settings_line path why) (sym is.config_is)) put in
-      elim (stopped files reliable job rose why is.settings cause is.are) [
-        | inl memory ↦ inr (inl (record {
-          status_is = ap no_settings_status memory;
-          output = appends_none d;
-          put = put_as _ _ (ap (no_settings_line named.config) memory) told;
-        }))
-        | inr other ↦ elim other [
-          | inl same ↦ ends_refused a named (no_settings_line named.config why) (no_settings_status why) d e f m n _ out
-              (settings_answer says files job job.compare (Err why) named a is refl same) told
-          | inr failed ↦ inr (inr (record {
-            status_is = ap no_settings_status failed.0;
-            output = none_starts a.output d d (appends_none d);
-            failure = config_unread;
-            cause = (failed.1, failed.2);
-            put = put_as _ _ (ap (no_settings_line named.config) failed.0) told;
-          }))
-        ]
+-- it ends with the answer to its job, or is kept from it
+pub ends_without : {O : Type 0} (w : Written O) (a : AnswerOf O) (named : Whose → Named) (status : ℕ) (s : Sinks)
+    (site : Whose → Type 0) (out : Type 0) (files : Files) (reliable : Bool) (job : JobText) (rose : Type 0) (why : NoSettings)
+    (settings : Result Configured NoSettings)
+    → w.begun a.output s.out_old s.out_new → NoSettingsCause files reliable job rose why → AreSettings files job settings
+    → status ≡ no_settings_status why → Appends s.out_old s.out_new [] → Puts (no_settings_line (named Compared).config why) s
+    → (settings ≡ Err why → EndsOf w a named status s site out) → ((reliable ≡ false) × rose → site Compared)
+    → EndsOf w a named status s site out
+ends_without w a named status s site out files reliable job rose why settings begun cause are status_is none put whole failed =
+    elim (stopped files reliable job rose why settings cause are) [
+      | inl memory ↦ starved_for w a named status s site out (named Compared).config why memory status_is none put
+      | inr other ↦ elim other [
+        | inl same ↦ whole same
+        | inr unread ↦ broken w a named status s site out begun config_unread (status_is ∙ ap no_settings_status unread.0)
+            (failed (unread.1, unread.2)) (put_as _ _ (ap (no_settings_line (named Compared).config) unread.0) put)
       ]
-
-  -- it closes for this cause
-  pub closes_without : (wanted : Option JobText) (reliable : Bool) (why : NoSettings) (course : Course) (site out : Type 0)
-      → wanted ≡ Some job → NoSettingsCause files reliable job site why → Put (no_settings_line job.config why) e f m n
-      → course.opened_after ≡ course.opened_before → course.flushes_after ≡ course.flushes_before
-      → ClosesBy says files wanted (no_settings_status why) (sinks d d e f m n) course site out
-  closes_without wanted reliable why course site out is cause put unopened unflushed =
-      closes_stopped says files wanted job why d e f m n course site out is (unsure files reliable job site why cause) put unopened
-      unflushed
-
--- the same closing for a status that is equal
-pub closes_status : (says : Says) (files : Files) (wanted : Option JobText) (d e f : Option (List ℕ)) (m n status put : ℕ)
-    (course : Course) (site out : Type 0) → status ≡ put
-    → ClosesBy says files wanted put (sinks d d e f m n) course site out
-    → ClosesBy says files wanted status (sinks d d e f m n) course site out
-closes_status says files wanted d e f m n status put course site out same closes =
-    subst (λ (k : ℕ). ClosesBy says files wanted k (sinks d d e f m n) course site out) (sym same) closes
+    ]

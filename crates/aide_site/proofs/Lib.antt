@@ -9,3 +9,5 @@ pub mod Existence
 pub mod Pages
 pub mod HeldLemmas
 pub mod JobSettings
+pub mod ClosingEnds
+pub mod PointedLemmas

@@ -20,11 +20,15 @@ use Rattle.aide_site.specs.Lines.{database_line, open_line, outcome_lines}
 use Rattle.aide_site.specs.Says.{Says, usage_by}
 use Rattle.aide_site.specs.declared.whose.Whose.TheVariants.{Compared}
 
--- what a session writes to standard output and to standard error, and its status
-pub record Answer : Type 0 where
-  pub output : List ℕ
+-- what a session writes to standard output, as a value of this type, and to standard error, and its status
+pub record AnswerOf (O : Type 0) : Type 0 where
+  pub output : O
   pub errors : List ℕ
   pub status : ℕ
+
+-- an answer whose output is a text
+abbrev pub Answer : Type 0
+Answer = AnswerOf (List ℕ)
 
 -- the paths that the arguments and the configuration name
 pub record Named : Type 0 where

@@ -13,4 +13,5 @@ pub mod Reels
 pub mod Says
 pub mod Session
 pub mod Sites
+pub mod Trusted
 pub mod code

@@ -68,19 +68,19 @@ pub record IsSessionBy (says : Says) (wanted : Option JobText) (status : ℕ)
   -- If no failure was counted, the session ends with the answer to the arguments or out of memory.
   pub exact : (named : Named) (a : Answer) → IsAnswerBy says s.files wanted named a
       → HasNoFailure s.site_before s.site_after → HasNoFailure s.out_before s.out_after
-      → Whole a status s.sinks ⊎ Starved a status s.sinks
+      → Whole a status s.sinks ⊎ Starved status s.sinks
   -- Over a reliable site, if the output counts no failure, the session ends with the answer to the arguments or out
   -- of memory. On such a site a file that is not there counts as a failure, but is an answer.
   pub reliable : (named : Named) (a : Answer) → IsAnswerBy says s.files wanted named a
       → s.is_reliable ≡ true → HasNoFailure s.out_before s.out_after
-      → Whole a status s.sinks ⊎ Starved a status s.sinks
+      → Whole a status s.sinks ⊎ Starved status s.sinks
   -- If standard error counts no failure, the lines have been passed on.
   pub passed_on : HasNoFailure s.sinks.err_before s.sinks.err_after → s.is_passed_on ≡ true
   -- If the site shows what is at the paths of the named files, there is an answer.
   pub answered : TellsNamed s.files wanted → HasSessionAnswerBy says s.files wanted
   -- Over any site: the lines, the status and the output are those of one closing, whose cause holds.
-  pub closes : ClosesBy says s.files wanted status s.sinks s.course
-      (Rose s.site_before s.site_after) (Rose s.out_before s.out_after)
+  pub closes : ClosesBy says s.files s.is_reliable wanted status s.sinks s.course
+      s.site_before s.site_after (Rose s.out_before s.out_after)
   -- Besides the databases at most one file is opened, at most once.
   pub lookups : s.lookups_after ≤ one_more s.lookups_before
 

@@ -1,10 +1,8 @@
 //! The session of a job that only checks a configuration.
 ghost use Rattle.std.specs.Prelude.{◌≡◌, ◌≤◌, ℕ, List, Option, Some, Ok, false};
 ghost use Rattle.aide_entry.specs.Count.{one_more};
-ghost use Rattle.aide_site.specs.Answer.{IsJobAnswerBy, checked_by};
 ghost use Rattle.aide_site.specs.Closing.{AsksAndReads};
-ghost use Rattle.aide_site.specs.code.Parts.{AreSame, ClosesFor, EndsWith};
-ghost use Rattle.aide_site.specs.code.Parts.{part_between};
+ghost use Rattle.aide_site.specs.code.Parts.{AreSame, ClosesFor, part_between};
 ghost use Rattle.aide_words.specs.Job.{JobText, text_of_job};
 
 use crate::devices::Devices;
@@ -24,8 +22,6 @@ fn check<T: Telling, S: Site, W: Sink, E: Sink>(
     devices: &mut Devices<'_, T, S, W, E>,
 ) -> u8
     ensures same { AreSame devices.old devices.new }
-    ensures ends { EndsWith (λ files named a. a ≡ checked_by T.says settings.now) result
-        (part_between S.Sources W.Sink E.Sink devices.old devices.new) }
     ensures closes { (wanted : Option JobText) (config : List ℕ)
         → AsksAndReads (S.file_at devices.old.site.now) wanted config false (Ok settings.now)
         → ClosesFor T.says wanted result
@@ -50,8 +46,6 @@ pub fn check_job<T: Telling, S: Site, W: Sink, E: Sink>(
 ) -> u8
     requires { job.now.compare ≡ false }
     ensures same { AreSame devices.old devices.new }
-    ensures ends { EndsWith (λ files. IsJobAnswerBy T.says files (text_of_job job.now)) result
-        (part_between S.Sources W.Sink E.Sink devices.old devices.new) }
     ensures closes { (wanted : Option JobText) → wanted ≡ Some (text_of_job job.now)
         → ClosesFor T.says wanted result
         (part_between S.Sources W.Sink E.Sink devices.old devices.new) }

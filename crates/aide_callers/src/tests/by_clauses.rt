@@ -39,23 +39,23 @@ pub(super) fn report_on<S: Site, W: Sink, E: Sink>(
         → HasNoFailure (W.failures out.old) (W.failures out.new)
         → Whole a result
         (sinks_between W.delivered E.delivered E.failures out.old out.new err.old err.new)
-        ⊎ Starved a result
+        ⊎ Starved result
         (sinks_between W.delivered E.delivered E.failures out.old out.new err.old err.new) }
     ensures reliable { (named : Named) (a : Answer)
         → IsAnswerBy None (S.file_at site.old) (job_of words.now) named a
         → S.is_reliable site.old ≡ true → HasNoFailure (W.failures out.old) (W.failures out.new)
         → Whole a result
         (sinks_between W.delivered E.delivered E.failures out.old out.new err.old err.new)
-        ⊎ Starved a result
+        ⊎ Starved result
         (sinks_between W.delivered E.delivered E.failures out.old out.new err.old err.new) }
     ensures passed_on { HasNoFailure (E.failures err.old) (E.failures err.new)
         → E.is_flushed err.new ≡ true }
     ensures answered { TellsNamed (S.file_at site.old) (job_of words.now)
         → HasSessionAnswerBy None (S.file_at site.old) (job_of words.now) }
-    ensures closes { ClosesBy None (S.file_at site.old) (job_of words.now) result
+    ensures closes { ClosesBy None (S.file_at site.old) (S.is_reliable site.old) (job_of words.now) result
         (sinks_between W.delivered E.delivered E.failures out.old out.new err.old err.new)
         (course_between S.Sources W.Sink site.old site.new out.old out.new)
-        (Rose (S.failures site.old) (S.failures site.new))
+        (S.failures site.old) (S.failures site.new)
         (Rose (W.failures out.old) (W.failures out.new)) }
     ensures lookups { S.lookups site.new ≤ one_more (S.lookups site.old) }
 {

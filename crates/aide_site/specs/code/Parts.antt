@@ -1,10 +1,13 @@
 -- What contracts say of a part of a session: what it did with the site, the output and standard error.
-use Rattle.std.specs.Prelude.{◌≡◌, ℕ, ◌≤◌, Option, max}
+use Rattle.std.specs.Prelude.{◌≡◌, ℕ, ◌≤◌, Bool, List, Option, Some, max}
+use Rattle.aide_db.specs.declared.side.Side.{Side}
+use Rattle.aide_db.specs.declared.side.Side.TheVariants.{Old, New}
 use Rattle.aide_db.specs.declared.sources.Sources.{Ghosts as AnySources}
+use Rattle.aide_merge.specs.Asked.{Asked}
+use Rattle.aide_merge.specs.RightAnswer.{TellsSide}
 use Rattle.aide_text.specs.Failures.{Rose}
 use Rattle.aide_site.specs.Answer.{Answer, Named}
 use Rattle.aide_site.specs.Closing.{ClosesBy}
-use Rattle.aide_site.specs.Ends.{Ends, HasFailed}
 use Rattle.aide_site.specs.Files.{Files}
 use Rattle.aide_site.specs.Held.{HoldsWithin, most_held}
 use Rattle.aide_site.specs.Session.{SessionView, view_between}
@@ -26,16 +29,10 @@ pub record AreSame {C S R W E : Type 0} (m n : Devices C S W E R) : Type 0 where
   pub out : n.out.ghost_name ≡ m.out.ghost_name
   pub err : n.err.ghost_name ≡ m.err.ghost_name
 
--- the session ends with each such answer, or is kept from it by memory or by a device
-abbrev pub EndsWith : (Files → Named → Answer → Type 0) → ℕ → SessionView → Type 0
-EndsWith is_answer status s = (named : Named) (a : Answer) → is_answer s.files named a
-    → Ends a named status s.sinks (HasFailed s.is_reliable s.site_before s.site_after)
-    (Rose s.out_before s.out_after)
-
 -- the session of what the arguments ask for ends by one closing, whose cause holds
 abbrev pub ClosesFor : Says → Option JobText → ℕ → SessionView → Type 0
-ClosesFor says wanted status s = ClosesBy says s.files wanted status s.sinks s.course
-    (Rose s.site_before s.site_after) (Rose s.out_before s.out_after)
+ClosesFor says wanted status s = ClosesBy says s.files s.is_reliable wanted status s.sinks s.course
+    s.site_before s.site_after (Rose s.out_before s.out_after)
 
 -- What a part of a session leaves of the desk's peak.
 pub record KeepsPeak {C S R W E : Type 0} (m n : Devices C S W E R) : Type 0 where
@@ -49,3 +46,19 @@ abbrev pub HoldsWith : {C S R W E : Type 0} → (Files → Named → Answer → 
     → Devices C S W E R → Devices C S W E R → Type 0
 HoldsWith is_answer files m n = (named : Named) (a : Answer) → is_answer files named a
     → HoldsWithin files named m.desk.now.peak n.desk.now.peak
+
+-- the paths of what is asked for, and that of the configuration
+abbrev pub named_by : List ℕ → Asked → Named
+named_by config asked = record {
+  config = config;
+  old_path = asked.old_path;
+  new_path = asked.new_path;
+}
+
+-- The sides of a site show what is at these two paths.
+pub record IsPointed (files : Files) (asked : Asked) (bytes_of : Side → Option (List ℕ))
+    (is_missing : Side → Bool) : Type 0 where
+  pub of_old : (file : Option (List ℕ)) → files asked.old_path ≡ Some file
+      → TellsSide (bytes_of Old) (is_missing Old) file
+  pub of_new : (file : Option (List ℕ)) → files asked.new_path ≡ Some file
+      → TellsSide (bytes_of New) (is_missing New) file

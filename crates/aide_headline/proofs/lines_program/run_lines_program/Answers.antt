@@ -1,7 +1,7 @@
 use Rattle.std.proofs.Common.{arith}
 use Rattle.aide_site.specs.Answer.{asked_by, limits}
 use Rattle.aide_line_session.specs.LineAnswer.{trusted_of}
-use Rattle.aide_line_session.specs.Trusted.{trusted_at}
+use Rattle.aide_site.specs.Trusted.{trusted_at}
 use Rattle.aide_line_session.proofs.LineLaws.{line_answer_by_what_is_asked}
 use Rattle.aide_headline.proofs.LineLaws.{asked_has_an_answer, right_is_the_answer}
 use Rattle.aide_headline.proofs.lines_program.run_lines_program.Goals as goal

@@ -19,4 +19,4 @@ returns-clause-bound g c named settings old new asks =
 
 pub returns-clause-agreed : goal.returns-clause-agreed
 returns-clause-agreed g c low =
-    a_good_status_means_one_digest None _ _ c.session_on.result _ _ _ _ c.session_on.ensures.session.closes low
+    a_good_status_means_one_digest None _ c.session_on.result _ c.session_on.ensures.session low

@@ -1,8 +1,9 @@
 use Rattle.std.proofs.Common.{inr, rules}
 use Rattle.aide_merge.specs.Asked.{asked}
-use Rattle.aide_line_session.specs.code.LineParts.{named_by}
+use Rattle.aide_site.specs.code.Parts.{named_by}
 use Rattle.aide_line_run.specs.ListView.{list_read}
-use Rattle.aide_line_session.proofs.LineParts.{closes_seen, pointed_later, seen_pointed, trusted_later}
+use Rattle.aide_line_session.proofs.LineParts.{closes_seen, seen_pointed, trusted_later}
+use Rattle.aide_site.proofs.PointedLemmas.{pointed_later}
 use Rattle.aide_site.proofs.PutLemmas.{appends_none}
 use Rattle.aide_line_session.proofs.line_databases.compare_lines.Goals as goal
 

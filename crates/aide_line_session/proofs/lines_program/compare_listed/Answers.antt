@@ -9,7 +9,7 @@ use Rattle.aide_line_run.specs.ListView.{list_read}
 use Rattle.aide_line_session.specs.LineAnswer.{trusted_of}
 use Rattle.aide_line_session.specs.LineEnds.{no_settings}
 use Rattle.aide_site.specs.declared.job_config.NoSettings.TheVariants.{Memory}
-use Rattle.aide_line_session.specs.code.LineParts.{named_by}
+use Rattle.aide_site.specs.code.Parts.{named_by}
 use Rattle.aide_site.proofs.JobSettings.{both_named, cause_for, read_for}
 use Rattle.aide_site.proofs.PutLemmas.{appends_none, put_as}
 use Rattle.aide_line_session.proofs.LineParts.{closes_as, ends_seen, seen_read}

@@ -8,8 +8,8 @@ use Rattle.aide_line_session.proofs.LineParts.{ends_for, is_none_and_some, same_
 use Rattle.aide_line_session.specs.LineSession.{check_job_of}
 use Rattle.aide_line_session.specs.SettingsTold.{settings_told}
 use Rattle.aide_line_session.proofs.CheckJobs.{only_checks}
+use Rattle.aide_site.specs.code.Parts.{part_between}
 use Rattle.aide_site.proofs.Closings.{closes_starved, closes_unopened}
-use Rattle.aide_site.proofs.Endings.{ends_starved}
 use Rattle.aide_site.proofs.PutLemmas.{appends_none}
 use Rattle.aide_line_session.proofs.lines_program.run_line_words.Goals as goal
 
@@ -31,9 +31,9 @@ returns-in-Err-Usage-clause-unlooked g c = λ job is.
 
 pub returns-in-Err-Usage-clause-alone : goal.returns-in-Err-Usage-clause-alone
 returns-in-Err-Usage-clause-alone g c = λ none. record {
-  ends = c.run_check_words.ensures.ends;
   closes = c.run_check_words.ensures.closes;
-  unopened = closes_unopened (Some settings_told) _ (check_job_of c.args.words.now) _ _ _ _ _ (only_checks c.args.words.now)
+  unopened = closes_unopened (Some settings_told) (check_job_of c.args.words.now) _
+      (part_between g.S.Sources g.W.Sink g.E.Sink c.args.devices.now c.run_check_words.new.devices) (only_checks c.args.words.now)
       c.run_check_words.ensures.closes;
   still = c.run_check_words.ensures.still;
   trusted_unopened = refl;
@@ -45,7 +45,7 @@ returns-in-Err-Usage-clause-compares g c = λ job is.
     absurd (is_none_and_some _ _ (c.read_line_words.ensures.usage (c.in-Err-Usage.is ∙ ap Err c.in-Err-Usage.field-0-is)) is)
 
 pub returns-in-Err-Memory-clause-alone : goal.returns-in-Err-Memory-clause-alone
-returns-in-Err-Memory-clause-alone g c = search (rules, ends_starved, closes_starved)
+returns-in-Err-Memory-clause-alone g c = search (rules, appends_none, closes_starved)
 
 pub returns-in-Err-Memory-clause-compares : goal.returns-in-Err-Memory-clause-compares
 returns-in-Err-Memory-clause-compares g c = λ job is. inl (record {

@@ -6,9 +6,9 @@ use Rattle.aide_line_session.specs.code.LineParts.{line_view_between}
 use Rattle.aide_line_session.proofs.LineEndings.{line_bound, lines_end, lines_passed, passed_view, peaks_of_lines, put_rises}
 use Rattle.aide_line_session.proofs.LineEndings.{trusted_line_bound, lines_unfailed}
 use Rattle.aide_line_session.proofs.LineExistence.{lines_answered}
-use Rattle.aide_site.proofs.Closings.{closes_passed}
-use Rattle.aide_site.proofs.Endings.{ends_exactly, ends_passed, ends_reliably, no_failure_never_rose, true_is_not_false}
-use Rattle.aide_site.proofs.Existence.{answered}
+use Rattle.aide_site.specs.code.Parts.{part_between}
+use Rattle.aide_site.proofs.ClosingEnds.{session_of}
+use Rattle.aide_site.proofs.Endings.{no_failure_never_rose, true_is_not_false}
 use Rattle.aide_line_session.proofs.lines_program.run_lines_and_pass_on.Goals as goal
 
 pub returns-clause-session : goal.returns-clause-session
@@ -24,22 +24,9 @@ returns-clause-session g c =
     let failed = g.S.Sources.failures devices.site.now in
     record {
       alone = λ none.
-          let alone = ran.ensures.alone none in
-          let before = alone.closes.put.never_falls in
-          record {
-            ends = λ named a is. ends_passed a named _ _ _ _ _ _ _ _ _ _ _ kept after (alone.ends named a is);
-            exact = λ named a is unfailed_site unfailed_out.
-                ends_exactly a named (g.S.Sources.is_reliable devices.site.now) _ _ _ _ _ _ unfailed_site unfailed_out
-                (ends_passed a named _ _ _ _ _ _ _ _ _ _ _ kept after (alone.ends named a is));
-            reliable = λ named a is reliable unfailed_out.
-                ends_reliably a named _ _ _ (g.S.Sources.failures devices.site.now)
-                (g.S.Sources.failures ran.new.devices.site.now) _ _ reliable unfailed_out
-                (ends_passed a named _ _ _ _ _ _ _ _ _ _ _ kept after (alone.ends named a is));
-            passed_on = λ unfailed. c.pass_on.ensures.flushed (omega (arith, before, after, unfailed.0), unfailed.1);
-            answered = answered (Some settings_told) _ (check_job_of c.args.words.now);
-            closes = closes_passed (Some settings_told) _ (check_job_of c.args.words.now) _ _ _ _ _ _ _ _ _ _ _ _ kept after alone.closes;
-            lookups = ran.ensures.lookups;
-          };
+          session_of (Some settings_told) (check_job_of c.args.words.now) ran.result
+          (part_between g.S.Sources g.W.Sink g.E.Sink devices ran.new.devices) bytes count (g.E.Sink.is_flushed c.pass_on.new.err) kept
+          after c.pass_on.ensures.flushed ran.ensures.lookups (ran.ensures.alone none).closes;
       unopened = λ none. (ran.ensures.alone none).unopened;
       still = λ none. (ran.ensures.alone none).still;
       trusted_unopened = λ none. (ran.ensures.alone none).trusted_unopened;

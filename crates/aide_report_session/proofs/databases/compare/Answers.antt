@@ -1,75 +1,50 @@
-use Rattle.std.proofs.Common.{◌∙◌, sym, refl, rules}
+use Rattle.std.proofs.Common.{◌≡◌, ◌∙◌, ℕ, List, Some, arith, refl, sym}
 use Rattle.std.proofs.Math.Path.{subst}
-use Rattle.aide_db.specs.declared.side.Side.TheVariants.{Old}
-use Rattle.aide_site.specs.Answer.{Named}
-use Rattle.aide_site.specs.Closing.{AsksToCompare, HasText}
-use Rattle.aide_site.specs.Files.{Files}
-use Rattle.aide_site.proofs.Closings.{asks_over, closes_over, closes_starved, old_is_not_new, pointed_texts}
-use Rattle.aide_site.proofs.Closings.{same_course, same_options, told_side}
-use Rattle.aide_site.proofs.Endings.{ends_by, ends_starved, failed_later, same_some}
-use Rattle.aide_site.proofs.HeldLemmas.{held_still, room_enough, same_held, stayed}
+use Rattle.aide_merge.specs.Asked.{asked}
+use Rattle.aide_site.specs.Closing.{AsksToCompare}
+use Rattle.aide_site.specs.Held.{IsPeakOf}
+use Rattle.aide_site.specs.code.Parts.{named_by}
+use Rattle.aide_site.proofs.Closings.{asks_over, closes_later, closes_starved, same_course, same_options}
+use Rattle.aide_site.proofs.Endings.{same_some}
+use Rattle.aide_site.proofs.HeldLemmas.{held_still}
+use Rattle.aide_site.proofs.PointedLemmas.{pointed_later}
+use Rattle.aide_site.proofs.PutLemmas.{appends_none}
 use Rattle.aide_report_session.proofs.databases.compare.Goals as goal
 
-pub returns-in-Err-clause-ends : goal.returns-in-Err-clause-ends
-returns-in-Err-clause-ends g c = λ named a is. ends_starved a named _ _ _ _ _ _ _ c.put_memory_line.ensures
-
 pub returns-in-Err-clause-closes : goal.returns-in-Err-clause-closes
-returns-in-Err-clause-closes g c = λ wanted config read. closes_starved g.T.Telling.says _ wanted _ _ _ _ _ _ _ _
-    c.put_memory_line.ensures c.point.ensures.keeps.openings refl
-
-pub returns-in-Err-point-clause-ends : goal.returns-in-Err-point-clause-ends
-returns-in-Err-point-clause-ends g c = λ named a is. ends_starved a named _ _ _ _ _ _ _ c.put_memory_line-in-Err-point.ensures
-
-pub returns-in-Err-point-clause-closes : goal.returns-in-Err-point-clause-closes
-returns-in-Err-point-clause-closes g c = λ wanted config read. closes_starved g.T.Telling.says _ wanted _ _ _ _ _ _ _ _
-    c.put_memory_line-in-Err-point.ensures (c.point-2.ensures.keeps.openings ∙ c.point.ensures.keeps.openings) refl
-
-pub returns-clause-ends : goal.returns-clause-ends
-returns-clause-ends g c = search (rules, same_some, told_side, old_is_not_new, ends_by, failed_later, stayed)
+returns-in-Err-clause-closes g c = λ wanted config read. closes_starved g.T.Telling.says _ _ wanted _ _ _ _ _ _ _ _ _ _ _
+    c.prepare.ensures.keeps.openings (appends_none _) refl refl c.put_memory_line.ensures
 
 pub returns-clause-closes : goal.returns-clause-closes
 returns-clause-closes g c = λ wanted config read.
-    let files = g.S.Sources.file_at c.args.devices.now.site.now in
-    let named : Named = record { config = config; old_path = c.in-Some.task.old_path.now; new_path = c.in-Some.task.new_path.now } in
-    let same = c.point-2.ensures.keeps.files ∙ c.point.ensures.keeps.files in
-    let texts = pointed_texts files (g.S.Sources.file_at c.point.new.self) named (g.S.Sources.bytes_of c.point.new.self)
-    (g.S.Sources.bytes_of c.point-2.new.self)
-    c.point.ensures.keeps.files c.in_default-point.ensures.pointed c.in_default-point-2.ensures.pointed
-    (c.point-2.ensures.others.other Old old_is_not_new) in
+    let devices = c.args.devices.now in
+    let files = g.S.Sources.file_at devices.site.now in
+    let kept = c.prepare.ensures.keeps in
+    let ran = c.compare_sides.new.devices in
+    let named = named_by config (asked c.in-Some.task) in
     let asks : AsksToCompare files wanted named = record
     { settings = c.args.settings.now; asks = read; old_is = c.in-Some.ensures.some.0; new_is = c.in-Some.ensures.some.1 } in
-    closes_over g.T.Telling.says files (g.S.Sources.file_at c.point-2.new.self) wanted _ _ _ _ _ _ _ _ same
-    (same_course g.S.Sources g.W.Sink c.args.devices.now.site.now
-    c.point-2.new.self c.compare_sides.new.devices.site.now c.args.devices.now.out.now c.compare_sides.new.devices.out.now
-    (c.point-2.ensures.keeps.openings ∙ c.point.ensures.keeps.openings))
-    (c.point-2.ensures.keeps.failures ∙ c.point.ensures.keeps.failures)
-    (c.compare_sides.ensures.closes wanted (record {
-      named = named;
-      old_is = refl;
-      new_is = refl;
-      asks = asks_over files _ wanted named same asks;
-      options_are = same_options files _ wanted named same asks ∙ sym c.in-Some.ensures.some.2;
-      gives = λ side text has. texts side text (subst (λ (f : Files). HasText f named side text) same has);
-    }))
-
-pub returns-in_default-reserve-clause-closes : goal.returns-in_default-reserve-clause-closes
-returns-in_default-reserve-clause-closes g c = λ wanted config read. closes_starved g.T.Telling.says _ wanted _ _ _ _ _ _ _ _
-    c.put_memory_line-in_default-reserve.ensures (c.point-2.ensures.keeps.openings ∙ c.point.ensures.keeps.openings) refl
+    closes_later g.T.Telling.says _ _ _ _ wanted _ _ _ _ _ _ _ _ kept.files kept.reliable
+    (same_course g.S.Sources g.W.Sink devices.site.now c.prepare.new.site ran.site.now devices.out.now ran.out.now kept.openings)
+    (let same = kept.failures in omega (arith, same))
+    (c.compare_sides.ensures.closes wanted config (pointed_later _ _ _ _ _ kept.files c.in_default-prepare.ensures.pointed)
+    (asks_over files _ wanted named kept.files asks) (same_options files _ wanted named kept.files asks ∙ sym c.in-Some.ensures.some.2))
 
 pub returns-in-Err-clause-bound : goal.returns-in-Err-clause-bound
-returns-in-Err-clause-bound g c = λ named a is. same_held (g.S.Sources.file_at c.args.devices.now.site.now) named
-    c.args.devices.now.desk.now.peak
-
-pub returns-in-Err-point-clause-bound : goal.returns-in-Err-point-clause-bound
-returns-in-Err-point-clause-bound g c = λ named a is. same_held
-    (g.S.Sources.file_at c.args.devices.now.site.now) named c.args.devices.now.desk.now.peak
-
-pub returns-in_default-reserve-clause-bound : goal.returns-in_default-reserve-clause-bound
-returns-in_default-reserve-clause-bound g c = λ named a is. held_still (g.S.Sources.file_at c.args.devices.now.site.now) named _ _
-    c.reserve.ensures.peak
+returns-in-Err-clause-bound g c = λ named a is. held_still (g.S.Sources.file_at c.args.devices.now.site.now) named _ _
+    c.prepare.ensures.peak
 
 pub returns-clause-bound : goal.returns-clause-bound
-returns-clause-bound g c = search (rules, same_some, pointed_texts, old_is_not_new)
+returns-clause-bound g c = λ named a is old new has_old has_new.
+    let files = g.S.Sources.file_at c.args.devices.now.site.now in
+    let settings = c.args.settings.now in
+    let pointed = c.in_default-prepare.ensures.pointed in
+    let old_path = same_some settings.old_path _ _ is.old_is c.in-Some.ensures.some.0 in
+    let new_path = same_some settings.new_path _ _ is.new_is c.in-Some.ensures.some.1 in
+    subst (λ (k : ℕ). IsPeakOf old new k c.compare_sides.new.devices.desk.now.peak) c.prepare.ensures.peak
+    (c.compare_sides.ensures.bound old new
+    (pointed.of_old (Some old) (subst (λ (path : List ℕ). files path ≡ Some (Some old)) old_path has_old))
+    (pointed.of_new (Some new) (subst (λ (path : List ℕ). files path ≡ Some (Some new)) new_path has_new)))
 
 pub compare_sides-requires : goal.compare_sides-requires
-compare_sides-requires g c = record { room = room_enough _ c.in-Ok.ensures.room }
+compare_sides-requires g c = record { room = c.in_default-prepare.ensures.room }

@@ -1,8 +1,7 @@
 use Rattle.std.proofs.Common.{rules}
-use Rattle.aide_line_session.proofs.LineParts.{kept_then}
-use Rattle.aide_site.proofs.Closings.{old_is_not_new, told_side}
+use Rattle.aide_site.proofs.Closings.{kept_then, old_is_not_new, told_side}
 use Rattle.aide_site.proofs.HeldLemmas.{room_enough}
-use Rattle.aide_line_session.proofs.line_databases.prepare.Goals as goal
+use Rattle.aide_site.proofs.pointing.prepare.Goals as goal
 
 pub returns-in-Err-clause-keeps : goal.returns-in-Err-clause-keeps
 returns-in-Err-clause-keeps g c = c.point_side.ensures.keeps

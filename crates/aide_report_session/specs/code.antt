@@ -1,2 +1,0 @@
--- Definitions for steps inside the code. No clause of a public call cites them.
-pub mod Premises
