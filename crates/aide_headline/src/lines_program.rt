@@ -1,7 +1,6 @@
-//! What the whole program promises if it writes lines of JSON, in three clauses.
-ghost use Rattle.std.specs.Prelude.{◌≡◌, ◌≤◌, ◌+◌, ◌⊎◌, ℕ, List, Some, Result, max};
+//! What the whole program promises if it writes lines of JSON, in two clauses.
+ghost use Rattle.std.specs.Prelude.{◌≡◌, ◌⊎◌, ℕ, List, Some, Result};
 ghost use Rattle.aide_conf.specs.Settings.{Configured};
-ghost use Rattle.aide_db.specs.Longest.{longest_line};
 ghost use Rattle.aide_headline.specs.LineHeadline.{IsRightLineAnswer};
 ghost use Rattle.aide_merge.specs.RightAnswer.{Report};
 ghost use Rattle.aide_site.specs.Answer.{Named, asked_by, limits};
@@ -9,6 +8,7 @@ ghost use Rattle.aide_line_session.specs.AsksForLines.{AsksForLines};
 ghost use Rattle.aide_line_session.specs.LineAnswer.{line_answer, lines_at_fault, trusted_of};
 ghost use Rattle.aide_line_session.specs.LineEnds.{WholeLines};
 ghost use Rattle.aide_site.specs.Ends.{Starved, sinks_between};
+ghost use Rattle.aide_site.specs.Held.{IsPeakOf};
 ghost use Rattle.aide_site.specs.Put.{HasNoFailure};
 ghost use Rattle.aide_site.specs.Trusted.{trusted_at};
 ghost use Rattle.aide_line_run.specs.Listed.{ListRead};
@@ -34,7 +34,7 @@ use std::alloc::Global;
 ///   trusted new, and a beginning of what comes before the last line has gone out (`answer`). No faulty line and no
 ///   line after it has a part in this beginning (`early` of `BeginsOverTexts`).
 /// - Neither desk holds more than the longest line of each text of its pair and one more line as long as the longer
-///   of these, unless it held more before (`bound`, `trusted_bound`).
+///   of these, unless it held more before (`bound`).
 ///
 /// What is promised beyond this is in the contract of [`lines_session_on`].
 pub fn run_lines_program<S: Site, W: Sink, E: Sink>(
@@ -68,17 +68,8 @@ pub fn run_lines_program<S: Site, W: Sink, E: Sink>(
         (old new trusted_old trusted_new : List ℕ)
         → AsksForLines (S.file_at compared.old.site) (trusted_at (S.file_at trusted.old.site))
         words.now job list named settings old new trusted_old trusted_new
-        → compared.new.desk.peak ≤ max compared.old.desk.peak
-        (longest_line limits old + longest_line limits new
-        + max (longest_line limits old) (longest_line limits new)) }
-    ensures trusted_bound { (job : LineJobText) (list : ListRead) (named : Named)
-        (settings : Configured)
-        (old new trusted_old trusted_new : List ℕ)
-        → AsksForLines (S.file_at compared.old.site) (trusted_at (S.file_at trusted.old.site))
-        words.now job list named settings old new trusted_old trusted_new
-        → trusted.new.desk.peak ≤ max trusted.old.desk.peak
-        (longest_line limits trusted_old + longest_line limits trusted_new
-        + max (longest_line limits trusted_old) (longest_line limits trusted_new)) }
+        → IsPeakOf old new compared.old.desk.peak compared.new.desk.peak
+        × IsPeakOf trusted_old trusted_new trusted.old.desk.peak trusted.new.desk.peak }
 {
     lines_session_on(alloc, words, compared, trusted, out, err)
 }

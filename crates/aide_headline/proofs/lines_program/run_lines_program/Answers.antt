@@ -18,10 +18,7 @@ returns-clause-answer g c job list named settings old new trusted_old trusted_ne
 pub returns-clause-bound : goal.returns-clause-bound
 returns-clause-bound g c job list named settings old new trusted_old trusted_new asks =
     let answer = asked_has_an_answer asks in
-    (c.lines_session_on.ensures.session.compares job asks.job_is).bound named answer.0 answer.1 old new asks.old_there asks.new_there
-
-pub returns-clause-trusted_bound : goal.returns-clause-trusted_bound
-returns-clause-trusted_bound g c job list named settings old new trusted_old trusted_new asks =
-    let answer = asked_has_an_answer asks in
-    (c.lines_session_on.ensures.session.compares job asks.job_is).trusted_bound named answer.0 answer.1
-    trusted_old trusted_new asks.trusted_old_there asks.trusted_new_there
+    let session = c.lines_session_on.ensures.session.compares job asks.job_is in (
+      session.bound named answer.0 answer.1 old new asks.old_there asks.new_there,
+      session.trusted_bound named answer.0 answer.1 trusted_old trusted_new asks.trusted_old_there asks.trusted_new_there,
+    )
