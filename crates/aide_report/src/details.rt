@@ -30,7 +30,10 @@ use aide_text::{
     put_texts_side_by_side,
 };
 
-fn link_value<'a>(view: &View<'a>) -> ValueText<Ready, DecodedFeed<'a>, SliceFeed<'a>>
+/// The text of a value.
+type Text<'a> = ValueText<Ready, DecodedFeed<'a>, SliceFeed<'a>>;
+
+fn link_value<'a>(view: &View<'a>) -> Text<'a>
     ensures { text_rest ready_rest decoded_rest slice_rest result
         ≡ option_text printed_link (link_in ((entry_in view.now).1 AnyAttr.Lname)) }
 {
@@ -41,7 +44,7 @@ fn link_value<'a>(view: &View<'a>) -> ValueText<Ready, DecodedFeed<'a>, SliceFee
     }
 }
 
-fn field_value<'a>(view: &View<'a>, attr: Attr) -> ValueText<Ready, DecodedFeed<'a>, SliceFeed<'a>>
+fn field_value<'a>(view: &View<'a>, attr: Attr) -> Text<'a>
     ensures { text_rest ready_rest decoded_rest slice_rest result
         ≡ option_text printed (opaque_in ((entry_in view.now).1 attr)) }
 {
@@ -63,11 +66,7 @@ fn digest_in_base16(view: &View<'_>, attr: Attr) -> Ready
 }
 
 /// The text of a digest. In base 64 it is the field as it is written.
-fn digest_value<'a>(
-    view: &View<'a>,
-    attr: Attr,
-    base16: bool,
-) -> ValueText<Ready, DecodedFeed<'a>, SliceFeed<'a>>
+fn digest_value<'a>(view: &View<'a>, attr: Attr, base16: bool) -> Text<'a>
     ensures { text_rest ready_rest decoded_rest slice_rest result
         ≡ option_text (digest_text base16) (digest_in ((entry_in view.now).1 attr)) }
 {
@@ -81,11 +80,7 @@ fn digest_value<'a>(
 }
 
 /// The value of an attribute as a text.
-fn value<'a>(
-    view: &View<'a>,
-    attr: Attr,
-    base16: bool,
-) -> ValueText<Ready, DecodedFeed<'a>, SliceFeed<'a>>
+fn value<'a>(view: &View<'a>, attr: Attr, base16: bool) -> Text<'a>
     ensures { text_rest ready_rest decoded_rest slice_rest result
         ≡ text_at base16 attr ((entry_in view.now).1 attr) }
 {
@@ -101,11 +96,7 @@ fn value<'a>(
 }
 
 /// The old side's value in a change, or the empty text if that side has no entry.
-fn old_value<'a>(
-    change: Change<'a>,
-    attr: Attr,
-    base16: bool,
-) -> ValueText<Ready, DecodedFeed<'a>, SliceFeed<'a>>
+fn old_value<'a>(change: Change<'a>, attr: Attr, base16: bool) -> Text<'a>
     ensures { text_rest ready_rest decoded_rest slice_rest result
         ≡ side_text base16 attr (change_of change.entry).1.0 }
 {
@@ -117,11 +108,7 @@ fn old_value<'a>(
 }
 
 /// The new side's value.
-fn new_value<'a>(
-    change: Change<'a>,
-    attr: Attr,
-    base16: bool,
-) -> ValueText<Ready, DecodedFeed<'a>, SliceFeed<'a>>
+fn new_value<'a>(change: Change<'a>, attr: Attr, base16: bool) -> Text<'a>
     ensures { text_rest ready_rest decoded_rest slice_rest result
         ≡ side_text base16 attr (change_of change.entry).1.1 }
 {
@@ -133,7 +120,7 @@ fn new_value<'a>(
 }
 
 /// The bytes of a text, if they are kept or lent as they are written.
-fn bytes_of<'x>(text: &'x ValueText<Ready, DecodedFeed<'_>, SliceFeed<'_>>) -> Option<&'x [u8]>
+fn bytes_of<'x>(text: &'x Text<'_>) -> Option<&'x [u8]>
     ensures { IfSome result (λ bytes.
         text_rest ready_rest decoded_rest slice_rest text.now ≡ bytes.now) }
 {
