@@ -28,7 +28,7 @@ SAID = [("aide_line_laws", "OverMaps", "SayAll")]
 SILENT = ("aide_line_laws", "OverMaps", "IsAccount")
 # What decides is printed of these crates, and of others only these names.
 DECIDES = ("aide_line_laws", "aide_agreement")
-ALSO = [("aide_entry", "Attributes", name) for name in ("Attributes", "type_in")]
+ALSO = [("aide_fields", "Attributes", name) for name in ("Attributes", "type_in")]
 # What these mean, their names and the examples of their users show.
 SHOWN = [
     ("aide_agreement", "Own", name)

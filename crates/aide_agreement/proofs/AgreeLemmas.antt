@@ -4,7 +4,7 @@ use Rattle.std.specs.Prelude.{◌||◌, ◌&&◌, not}
 use Rattle.aide_attr.specs.Difference.{Sides, sides_of}
 use Rattle.aide_attr.specs.declared.attr.Attr.{Attr}
 use Rattle.aide_attr.specs.declared.delta.Delta.{Delta}
-use Rattle.aide_entry.specs.Attributes.{Attributes, sides_between}
+use Rattle.aide_fields.specs.Attributes.{Attributes, sides_between}
 use Rattle.aide_agreement.specs.Agreement.{agree, agree_by, are_same_by, have_targets, says_rights}
 use Rattle.aide_agreement.specs.Trusted.{changed_by, changed_too}
 

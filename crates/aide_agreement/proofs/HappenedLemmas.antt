@@ -12,7 +12,7 @@ use Rattle.aide_attr.specs.declared.file_type.FileType.{FileType}
 use Rattle.aide_attr.specs.declared.file_type.FileType.TheVariants.{Other}
 use Rattle.aide_attr.proofs.DifferenceLemmas.{attr_is}
 use Rattle.aide_attr.proofs.WalkLemmas.{bool_cases}
-use Rattle.aide_entry.specs.Attributes.{Attributes, sides_between, type_in}
+use Rattle.aide_fields.specs.Attributes.{Attributes, sides_between, type_in}
 use Rattle.aide_agreement.specs.Account.{Pair, is_as_trusted}
 use Rattle.aide_agreement.specs.Agreement.{agree, have_targets, says_rights, shares_content}
 use Rattle.aide_agreement.specs.Happened.{ChangedToo, DiffersAt, HappenedThere, KeepsRights, OtherContent, SameContent}

@@ -12,7 +12,7 @@ use Rattle.aide_attr.specs.declared.delta.Ignore.{Ignore}
 use Rattle.aide_attr.specs.declared.file_type.FileType.{FileType}
 use Rattle.aide_attr.specs.declared.file_type.FileType.TheVariants as kinds
 use Rattle.aide_attr.proofs.WalkLemmas.{bool_cases}
-use Rattle.aide_entry.specs.Attributes.{Attributes, Value, sides_between, type_in}
+use Rattle.aide_fields.specs.Attributes.{Attributes, Value, sides_between, type_in}
 use Rattle.aide_agreement.specs.Account.{IsUnaccounted, Pair, came_too, is_as_old, is_as_trusted, same_as}
 use Rattle.aide_agreement.specs.Agreement.{agree, are_same_by, has_target, have_targets, is_shared, says_rights, shares_content, strays}
 use Rattle.aide_agreement.specs.Meaning.{Agrees, HasTarget, HaveSameDigests, SaysContent, SaysRights, SharesDigest}

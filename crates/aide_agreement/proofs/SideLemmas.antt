@@ -4,9 +4,9 @@ use Rattle.std.proofs.lemmas.Bool.{both_ways}
 use Rattle.aide_attr.proofs.WalkLemmas.{bool_cases}
 use Rattle.std.specs.Prelude.{◌||◌, ◌&&◌, not, Option, Some, None, is_some}
 use Rattle.aide_attr.specs.declared.attr.Attr.TheVariants.{Lname}
-use Rattle.aide_entry.specs.Attributes.{Attributes, Value, link_value}
-use Rattle.aide_entry.specs.Attributes.{is_different}
-use Rattle.aide_entry.proofs.ValueLaws.{same_value-Decides}
+use Rattle.aide_fields.specs.Attributes.{Attributes, Value, link_value}
+use Rattle.aide_fields.specs.Attributes.{is_different}
+use Rattle.aide_fields.proofs.ValueLaws.{same_value-Decides}
 use Rattle.aide_agreement.specs.Agreement.{has_target}
 use Rattle.aide_agreement.specs.Meaning.{HasTarget}
 

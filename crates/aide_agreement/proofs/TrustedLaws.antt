@@ -11,7 +11,7 @@ use Rattle.aide_attr.specs.declared.file_type.FileType.TheVariants.{File, Link}
 use Rattle.aide_attr.specs.Attr.{index}
 use Rattle.aide_attr.proofs.DifferenceLemmas.{attr_is}
 use Rattle.aide_attr.proofs.WalkLemmas.{bool_cases}
-use Rattle.aide_entry.specs.Attributes.{Attributes, Value, is_different, sides_between, type_in}
+use Rattle.aide_fields.specs.Attributes.{Attributes, Value, is_different, sides_between, type_in}
 use Rattle.aide_attr.specs.declared.attr.Attr.TheVariants.{Ftype, Gid, Perm, Uid}
 use Rattle.aide_agreement.specs.Account.{Pair, is_as_old, same_as}
 use Rattle.aide_agreement.specs.Happened.{DiffersAt, HappenedThere, KeepsRights, OtherContent, RightsCameToo}

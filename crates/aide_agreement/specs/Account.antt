@@ -3,7 +3,7 @@ use Rattle.std.specs.Prelude.{◌≡◌, Bool, true, false, not, ◌&&◌, if◌
 use Rattle.std.specs.List.{list_any}
 use Rattle.aide_attr.specs.Attr.{all_attrs}
 use Rattle.aide_attr.specs.Difference.{is_affected}
-use Rattle.aide_entry.specs.Attributes.{Attributes, sides_between}
+use Rattle.aide_fields.specs.Attributes.{Attributes, sides_between}
 use Rattle.aide_agreement.specs.Agreement.{agree}
 use Rattle.aide_agreement.specs.Trusted.{changed_too, keeps_rights}
 use Rattle.aide_agreement.specs.declared.account.SameAs.{SameAs}

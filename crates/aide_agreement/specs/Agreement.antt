@@ -7,7 +7,7 @@ use Rattle.aide_attr.specs.declared.attr.Attr.{Attr}
 use Rattle.aide_attr.specs.declared.attr.Attr.TheVariants.{Gid, Lname, Perm, Uid}
 use Rattle.aide_attr.specs.declared.file_type.FileType.{FileType}
 use Rattle.aide_attr.specs.declared.file_type.FileType.TheVariants.{Block, Char, File, Link, Other}
-use Rattle.aide_entry.specs.Attributes.{Attributes, Value, link_in, sides_between}
+use Rattle.aide_fields.specs.Attributes.{Attributes, Value, link_in, sides_between}
 use Rattle.aide_agreement.specs.Own.{is_digest, is_directory, is_own, is_strong}
 
 -- only one of the entries has the attribute

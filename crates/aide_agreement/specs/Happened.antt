@@ -4,7 +4,7 @@ use Rattle.aide_attr.specs.declared.attr.Attr.{Attr}
 use Rattle.aide_attr.specs.declared.attr.Attr.TheVariants.{Ftype, Linkcount, Lname}
 use Rattle.aide_attr.specs.declared.file_type.FileType.{FileType}
 use Rattle.aide_attr.specs.declared.file_type.FileType.TheVariants.{File, Link}
-use Rattle.aide_entry.specs.Attributes.{Attributes, Value, type_in}
+use Rattle.aide_fields.specs.Attributes.{Attributes, Value, type_in}
 use Rattle.aide_agreement.specs.Account.{Pair}
 use Rattle.aide_agreement.specs.Meaning.{Agrees, HasTarget, SaysRights, SharesDigest}
 use Rattle.aide_agreement.specs.Own.{is_content, is_directory, is_right}

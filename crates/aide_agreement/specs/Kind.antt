@@ -4,7 +4,7 @@ use Rattle.aide_agreement.specs.Account.{Pair}
 use Rattle.aide_attr.specs.Summary.{first_type}
 use Rattle.aide_attr.specs.declared.attr.Attr.TheVariants.{Ftype}
 use Rattle.aide_attr.specs.declared.file_type.FileType.{FileType}
-use Rattle.aide_entry.specs.Attributes.{Attributes, type_in}
+use Rattle.aide_fields.specs.Attributes.{Attributes, type_in}
 
 -- the word for what became of the path
 abbrev pub kind_word : Pair → List ℕ

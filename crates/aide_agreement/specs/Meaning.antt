@@ -4,7 +4,7 @@ use Rattle.aide_attr.specs.declared.attr.Attr.{Attr}
 use Rattle.aide_attr.specs.declared.attr.Attr.TheVariants.{Ftype, Gid, Lname, Perm, Uid}
 use Rattle.aide_attr.specs.declared.file_type.FileType.{FileType}
 use Rattle.aide_attr.specs.declared.file_type.FileType.TheVariants.{File, Link, Other}
-use Rattle.aide_entry.specs.Attributes.{Attributes, Value, link_value, type_in}
+use Rattle.aide_fields.specs.Attributes.{Attributes, Value, link_value, type_in}
 use Rattle.aide_agreement.specs.Own.{is_device, is_digest, is_directory, is_own, is_strong}
 
 -- both entries have one digest of at least 256 bits

@@ -7,7 +7,7 @@ use Rattle.aide_attr.specs.Set.{is_attr}
 use Rattle.aide_attr.specs.declared.attr.Attr.{Attr}
 use Rattle.aide_attr.specs.declared.attr.Attr.TheVariants.{Linkcount, Lname}
 use Rattle.aide_attr.specs.declared.file_type.FileType.{FileType}
-use Rattle.aide_entry.specs.Attributes.{Attributes, sides_between}
+use Rattle.aide_fields.specs.Attributes.{Attributes, sides_between}
 use Rattle.aide_agreement.specs.Agreement.{have_targets, says_rights, shares_content}
 use Rattle.aide_agreement.specs.Own.{is_content, is_directory, is_right}
 

@@ -5,7 +5,7 @@ use Rattle.std.specs.Prelude.{nat_le, ◌⊎◌}
 use Rattle.std.proofs.lemmas.Bool.{leb-true}
 use Rattle.std.proofs.lemmas.List.Elements.{All-nil}
 use Rattle.aide_db.proofs.FirstFault.{whole_uncut}
-use Rattle.aide_entry.specs.Text.{lines}
+use Rattle.aide_fields.specs.Text.{lines}
 use Rattle.aide_db.specs.Database.{counted, IsShort, IsFront, IsDatabase, IsSound, whole_lines, IsFirstFault, cut_kind, end_kind}
 use Rattle.aide_db.specs.code.LineFault.{line_fault}
 use Rattle.aide_db.specs.Parts.{IsOpen}

@@ -1,14 +1,14 @@
 -- Lines with more than one fault, and the one that is reported.
 use Rattle.std.proofs.Common.{◌≡◌, ℕ, List, [], ◌∷◌, refl, length, true, false, Some}
 use Rattle.std.specs.Prelude.{codes}
-use Rattle.aide_entry.proofs.Literals.{percent_encoding_on_literals}
+use Rattle.aide_fields.proofs.Literals.{percent_encoding_on_literals}
 use Rattle.aide_attr.specs.Attr.{row, row_of, attr_of_column}
-use Rattle.aide_entry.specs.Text.{fields}
-use Rattle.aide_entry.specs.Path.{path_cmp}
+use Rattle.aide_fields.specs.Text.{fields}
+use Rattle.aide_fields.specs.Path.{path_cmp}
 use Rattle.aide_entry.specs.Lines.{kind_of, kind_of_field}
 use Rattle.aide_entry.specs.Fields.{column_named}
-use Rattle.aide_entry.specs.Numbers.{number_of, natural_of}
-use Rattle.aide_entry.specs.Values.{time_of}
+use Rattle.aide_fields.specs.Numbers.{number_of, natural_of}
+use Rattle.aide_fields.specs.Values.{time_of}
 use Rattle.aide_entry.specs.Entry.{is_path}
 use Rattle.aide_db.specs.Database.{fault_of}
 use Rattle.aide_db.specs.FaultOrder.{fault_order, field_faults, has_fault}

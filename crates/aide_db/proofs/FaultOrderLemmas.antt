@@ -9,10 +9,11 @@ use Rattle.std.proofs.Math.Bool.{or-false}
 use Rattle.aide_attr.specs.Attr.{form_of}
 use Rattle.aide_attr.specs.declared.form.Form.{Form}
 use Rattle.aide_attr.specs.declared.form.Form.TheVariants as forms
-use Rattle.aide_entry.specs.Text.{fields}
+use Rattle.aide_fields.specs.Text.{fields}
 use Rattle.aide_entry.specs.Lines.{kind_of, is_end, counts, is_blank_kind}
 use Rattle.aide_entry.specs.Fields.{columns_of, are_columns, most_columns}
-use Rattle.aide_entry.specs.Values.{is_field, fault_of_form}
+use Rattle.aide_fields.specs.Values.{is_field}
+use Rattle.aide_entry.specs.Entry.{fault_of_form}
 use Rattle.aide_entry.specs.Entry.{has_form, is_before, fault_of_column, first_bad, first_bad_from}
 use Rattle.aide_entry.specs.EntryLines.{IsEntryLine}
 use Rattle.aide_db.specs.Database.{counted, fault_of}

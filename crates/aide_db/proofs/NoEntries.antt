@@ -2,10 +2,10 @@
 use Rattle.std.proofs.Common.{◌≡◌, ◌∙◌, ℕ, List, [], None, refl, ap}
 use Rattle.std.specs.FinMap.{from_sorted, get, get-from_sorted}
 use Rattle.aide_db.specs.Map.{database_of, entries_of}
-use Rattle.aide_entry.specs.Attributes.{Attributes}
+use Rattle.aide_fields.specs.Attributes.{Attributes}
 use Rattle.aide_entry.specs.Lines.{kind_of, kind_of_field}
-use Rattle.aide_entry.specs.Path.{path_cmp}
-use Rattle.aide_entry.specs.Text.{fields, lines}
+use Rattle.aide_fields.specs.Path.{path_cmp}
+use Rattle.aide_fields.specs.Text.{fields, lines}
 use Rattle.aide_db.specs.EmptyDatabase.{empty_database}
 
 no_line : entries_of empty_database ≡ []

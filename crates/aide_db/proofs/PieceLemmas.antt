@@ -7,7 +7,7 @@ use Rattle.std.proofs.lemmas.Bool.{eqb-true, cases_lt, false_from_ne_true}
 use Rattle.std.proofs.lemmas.List.{take-append-drop, take-append-le, get_or-take, get_or_default, length-take-le}
 use Rattle.std.proofs.lemmas.List.{length-take, length-drop, drop_more, drop-drop, take_all, drop_all, length-append}
 use Rattle.memchr.specs.Find.{IsFirstByte, is_byte}
-use Rattle.aide_entry.specs.Text.{is_newline, is_filled}
+use Rattle.aide_fields.specs.Text.{is_newline, is_filled}
 use Rattle.sha2.specs.Hashers.{Holds256}
 use Rattle.sha2.specs.declared.Sha256.{Sha256}
 use Rattle.std.proofs.lemmas.List.Elements.{All-append}

@@ -1,7 +1,7 @@
 -- Entries that are written alike.
 use Rattle.std.specs.Prelude.{ℕ, ◌≡◌, true, List}
 use Rattle.aide_db.specs.DeskView.{DeskView}
-use Rattle.aide_entry.specs.Text.{is_filled}
+use Rattle.aide_fields.specs.Text.{is_filled}
 use Rattle.aide_entry.specs.declared.column.Column.{Column}
 
 -- the lines and the columns are the same, and the line is not empty

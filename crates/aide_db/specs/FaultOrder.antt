@@ -5,7 +5,7 @@ use Rattle.std.specs.List.{list_any, range_with_len, enumerate_from}
 use Rattle.aide_attr.specs.Attr.{form_of}
 use Rattle.aide_attr.specs.declared.form.Form.{Form}
 use Rattle.aide_attr.specs.declared.form.Form.TheVariants.{Kind, Mode, Number, Time, Digest}
-use Rattle.aide_entry.specs.Text.{fields}
+use Rattle.aide_fields.specs.Text.{fields}
 use Rattle.aide_entry.specs.Lines.{kind_of, is_end, counts}
 use Rattle.aide_entry.specs.Fields.{columns_of, are_columns, most_columns}
 use Rattle.aide_entry.specs.Entry.{path_of, is_path, is_before, has_form}

@@ -1,7 +1,7 @@
 -- The outcome of asking a reel for the next chunk.
 use Rattle.std.specs.Prelude.{ℕ, ◌≡◌, ◌≤◌, true, List, [], ◌++◌, length, take}
 use Rattle.std.specs.Prelude.{Result, IfOk, OnErr, OnOk}
-use Rattle.aide_entry.specs.Text.{is_filled}
+use Rattle.aide_fields.specs.Text.{is_filled}
 use Rattle.sha2.specs.Hashers.{Holds256}
 use Rattle.sha2.specs.declared.Sha256.{Sha256}
 use Rattle.aide_entry.specs.Count.{one_more}

@@ -2,9 +2,10 @@
 ghost use Rattle.std.specs.Prelude.{◌≡◌, [], vec_capacity};
 ghost use Rattle.aide_entry.specs.Columns.{columns_in};
 ghost use Rattle.aide_entry.specs.EntryLines.{IsHeld};
-ghost use Rattle.aide_entry.specs.Spans.{AreHeldSpans, spans_in};
+ghost use Rattle.aide_fields.specs.Spans.{AreHeldSpans, spans_in};
 
-use aide_entry::{Columns, HeldEntry, Spans};
+use aide_entry::{Columns, HeldEntry};
+use aide_fields::Spans;
 use std::alloc::Allocator;
 use std::mem;
 

@@ -4,7 +4,7 @@ use Rattle.std.proofs.Common.{cond, Bool, not, ◌&&◌, Option, Some, None, eq-
 use Rattle.std.specs.Prelude.{IfNone}
 use Rattle.std.specs.List.{list_all, zip}
 use Rattle.std.proofs.lemmas.Bool.{and_parts, and_from, eqb-true}
-use Rattle.aide_entry.specs.Text.{fields}
+use Rattle.aide_fields.specs.Text.{fields}
 use Rattle.aide_entry.specs.Entry.{has_entry, has_form, is_path, is_before, entry_fault, fault_of_column, first_bad_from}
 use Rattle.aide_entry.specs.Entry.{first_bad, path_of}
 use Rattle.aide_entry.specs.declared.column.Column.{Column}

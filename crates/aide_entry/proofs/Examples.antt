@@ -2,10 +2,10 @@
 use Rattle.std.proofs.Common.{◌≡◌, [], ◌∷◌, refl, true, false}
 use Rattle.std.specs.Prelude.{codes}
 use Rattle.std.specs.declared.cmp.Ordering.TheVariants.{Less}
-use Rattle.aide_entry.specs.Text.{lines, ended_lines, unfinished_line, fields}
+use Rattle.aide_fields.specs.Text.{lines, ended_lines, unfinished_line, fields}
 use Rattle.aide_attr.specs.Attr.{row, row_of, attr_of_column}
 use Rattle.aide_attr.specs.declared.attr.Attr.TheVariants as attrs
-use Rattle.aide_entry.specs.Path.{path_cmp}
+use Rattle.aide_fields.specs.Path.{path_cmp}
 use Rattle.aide_entry.specs.Lines.{kind_of, kind_of_field}
 use Rattle.aide_entry.specs.Fields.{column_named, columns_of, are_columns}
 use Rattle.aide_entry.specs.declared.column.Column.TheVariants.{Name, Bits, Of, Skipped}

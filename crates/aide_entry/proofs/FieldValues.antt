@@ -1,34 +1,17 @@
 -- What fields mean, step by step.
-use Rattle.std.proofs.Common.{◌≡◌, ℕ, ℤ, ◌≤◌, List, length, refl, sym, ◌∙◌, true, false, cond, if◌then◌else◌, Bool, Option, Some, None, Ok}
-use Rattle.std.proofs.Common.{Err, nat_le, rules}
+use Rattle.std.proofs.Common.{◌≡◌, ℕ, List, refl, sym, ◌∙◌, true, false, if◌then◌else◌, Bool, Option, Some, None}
+use Rattle.std.proofs.Common.{rules}
 use Rattle.std.specs.Prelude.{option_map}
-use Rattle.std.proofs.lemmas.Bool.{le-leb}
-use Rattle.base64.specs.declared.decode.DecodeError.{DecodeError}
-use Rattle.base64.specs.Engines.{standard}
-use Rattle.base64.specs.GeneralPurpose.{decode_of, decoded_of}
 use Rattle.aide_attr.specs.declared.file_type.FileType.{FileType}
 use Rattle.aide_attr.specs.Attr.{bit_of, holder_of}
 use Rattle.aide_attr.specs.declared.attr.Attr.{Attr}
-use Rattle.aide_entry.specs.Text.{fields}
+use Rattle.aide_fields.specs.Text.{fields}
 use Rattle.aide_entry.specs.Fields.{field_under, is_bits, is_of}
 use Rattle.aide_entry.specs.Entry.{field_of, is_on, attributes_of}
 use Rattle.aide_entry.specs.code.FirstColumns.{bits_in, is_set}
 use Rattle.aide_entry.proofs.FirstColumnLemmas.{set_is_on}
 use Rattle.aide_entry.specs.declared.column.Column.{Column}
-use Rattle.aide_entry.specs.Attributes.{type_value, type_in}
-use Rattle.aide_entry.specs.Numbers.{number_of}
-use Rattle.aide_entry.specs.Values.{begins_number, time_of}
-
-pub time_decoded : (field bytes : List ℕ) → begins_number field ≡ false → length field ≤ 44
-    → decode_of standard field ≡ Ok bytes → time_of field ≡ number_of bytes
-unfolding time_of decoded_of
-time_decoded field bytes plain short ok = rw (plain, le-leb (length field) 44 short, ok) refl
-
-pub time_undecoded : (field : List ℕ) (e : DecodeError) → begins_number field ≡ false → decode_of standard field ≡ Err e
-    → time_of field ≡ None
-unfolding time_of decoded_of
-time_undecoded field e plain err =
-    rw (plain, err) (elim (nat_le (length field) 44) as (λ b. cond {A = Option ℤ} b None None ≡ None) [ true ↦ refl | false ↦ refl ])
+use Rattle.aide_fields.specs.Attributes.{type_value, type_in}
 
 pub types_mapped : (o : Option FileType) → type_in (option_map type_value o) ≡ o
 types_mapped None = refl

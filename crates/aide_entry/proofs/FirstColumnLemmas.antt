@@ -9,7 +9,7 @@ use Rattle.aide_entry.specs.code.Codes.{code_of}
 use Rattle.aide_entry.specs.Entry.{is_on}
 use Rattle.aide_entry.specs.Fields.{field_under, is_column}
 use Rattle.aide_entry.specs.code.FirstColumns.{AreFirstColumns, first_column, one_behind, field_at_first, bits_said, is_set}
-use Rattle.aide_entry.specs.Spans.{first_in}
+use Rattle.aide_fields.specs.Spans.{first_in}
 use Rattle.aide_entry.specs.declared.column.Column.{Column}
 use Rattle.aide_entry.specs.declared.column.Column.TheVariants.{Name, Bits, Of, Skipped}
 use Rattle.aide_entry.proofs.ColumnLemmas.{column_is, code_fits}

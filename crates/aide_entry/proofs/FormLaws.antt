@@ -5,10 +5,10 @@ use Rattle.aide_attr.specs.Attr.{form_of}
 use Rattle.aide_attr.specs.declared.attr.Attr.{Attr}
 use Rattle.aide_attr.specs.declared.file_type.FileType.{FileType}
 use Rattle.aide_attr.specs.declared.form.Form.TheVariants.{Kind, Mode, Number, Time, Link, Digest, Opaque}
-use Rattle.aide_entry.specs.Attributes.{number_value, mode_value, type_value, link_value, digest_value, opaque_value}
-use Rattle.aide_entry.specs.Attributes.{number_in, type_in, link_in, digest_in, opaque_in}
-use Rattle.aide_entry.specs.Numbers.{mode_of, number_of}
-use Rattle.aide_entry.specs.Values.{type_of_mode, time_of, digest_of}
+use Rattle.aide_fields.specs.Attributes.{number_value, mode_value, type_value, link_value, digest_value, opaque_value}
+use Rattle.aide_fields.specs.Attributes.{number_in, type_in, link_in, digest_in, opaque_in}
+use Rattle.aide_fields.specs.Numbers.{mode_of, number_of}
+use Rattle.aide_fields.specs.Values.{type_of_mode, time_of, digest_of}
 use Rattle.aide_entry.specs.Entry.{attributes_of, field_of, value_in}
 use Rattle.aide_entry.specs.declared.column.Column.{Column}
 

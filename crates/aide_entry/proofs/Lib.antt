@@ -1,20 +1,10 @@
 mod Examples
 mod ValueExamples
-pub mod Literals
-pub mod BlankLemmas
-pub mod SpanLemmas
 pub mod ShapeLemmas
-pub mod PathLemmas
-pub mod CutLemmas
-pub mod FieldLemmas
 pub mod KindLemmas
 pub mod Order
-pub mod NumberLemmas
-pub mod PathLaws
 pub mod SkippedLemmas
-pub mod ValueLaws
 pub mod FormLaws
-pub mod DecodeLemmas
 pub mod FieldValues
 pub mod AttrLoops
 pub mod ColumnAttrLemmas
@@ -22,9 +12,4 @@ pub mod ColumnLemmas
 pub mod SpecLineLemmas
 pub mod FirstColumnLemmas
 pub mod JudgedFields
-pub mod SymbolLemmas
-pub mod SplitLemmas
 pub mod EntryFaults
-pub mod DigitWeights
-pub mod TenDigits
-pub mod TimeMarks

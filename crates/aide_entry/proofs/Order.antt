@@ -8,8 +8,8 @@ use Rattle.std.specs.Ordering.{is_lt}
 use Rattle.std.proofs.lemmas.Cmp.{nat_list_cmp_total, lists_total}
 use Rattle.std.proofs.lemmas.Bool.{and_from, and_parts, eqb-true}
 use Rattle.std.specs.Prelude.{◌==◌}
-use Rattle.aide_entry.specs.Path.{pieces, path_cmp}
-use Rattle.aide_entry.specs.Text.{last_of, is_filled, fields}
+use Rattle.aide_fields.specs.Path.{pieces, path_cmp}
+use Rattle.aide_fields.specs.Text.{last_of, is_filled, fields}
 use Rattle.aide_entry.specs.Entry.{is_before, path_of, follows, entry_fault, first_bad, is_path}
 use Rattle.aide_entry.specs.EntryLines.{IsBefore, IsEntryLine}
 use Rattle.aide_entry.specs.declared.column.Column.{Column}
@@ -17,7 +17,7 @@ use Rattle.aide_entry.specs.declared.fault_kind.DbFaultKind.{DbFaultKind}
 use Rattle.aide_entry.specs.declared.fault_kind.DbFaultKind.TheVariants.{OutOfOrder}
 use Rattle.aide_entry.specs.declared.line.LineKind.TheVariants.{Blank, Other}
 use Rattle.aide_entry.specs.Lines.{kind_of}
-use Rattle.aide_entry.proofs.FieldLemmas.{no_field}
+use Rattle.aide_fields.proofs.FieldLemmas.{no_field}
 
 less_is : (o : Ordering) → is_lt o ≡ true → o ≡ Less
 less_is Less e = refl

@@ -9,15 +9,16 @@ use Rattle.std.specs.Cmp.Lexicographic.{same_text}
 use Rattle.aide_attr.specs.Attr.{form_of}
 use Rattle.aide_attr.specs.declared.form.Form.{Form}
 use Rattle.aide_attr.specs.declared.form.Form.TheVariants.{Kind}
-use Rattle.aide_entry.specs.Numbers.{mode_of, number_of, bits_of, natural_of}
-use Rattle.aide_entry.specs.Values.{time_of, is_nought, is_field, fault_of_form, IsTimeOrNothing}
+use Rattle.aide_fields.specs.Numbers.{mode_of, number_of, bits_of, natural_of}
+use Rattle.aide_fields.specs.Values.{time_of, is_nought, is_field, IsTimeOrNothing}
+use Rattle.aide_entry.specs.Entry.{fault_of_form}
 use Rattle.std.specs.Str.{bytes_eq}
 use Rattle.aide_entry.specs.Entry.{has_form, first_bad_from, fault_of_column}
 use Rattle.aide_entry.specs.code.Shapes.{shape_of, shape_of_form, has_shape, fault_of_shape, first_misshapen_from}
 use Rattle.aide_entry.specs.declared.column.Column.{Column}
 use Rattle.aide_entry.specs.declared.column.Column.TheVariants.{Of}
-use Rattle.aide_entry.specs.Spans.{field_at, fields_at}
-use Rattle.aide_entry.specs.declared.span.Span.{Span}
+use Rattle.aide_fields.specs.Spans.{field_at, fields_at}
+use Rattle.aide_fields.specs.declared.span.Span.{Span}
 use Rattle.aide_entry.specs.declared.shape.Shape.{Shape}
 use Rattle.aide_entry.specs.declared.shape.Shape.TheVariants.{Free}
 

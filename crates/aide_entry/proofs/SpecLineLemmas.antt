@@ -5,7 +5,7 @@ use Rattle.std.proofs.lemmas.Bool.Decides.{nat_tests}
 use Rattle.std.proofs.lemmas.List.{length-append}
 use Rattle.std.specs.List.{list_any}
 use Rattle.aide_entry.specs.Fields.{are_columns, are_distinct, column_named, is_name}
-use Rattle.aide_entry.specs.Text.{fields}
+use Rattle.aide_fields.specs.Text.{fields}
 use Rattle.aide_entry.specs.declared.column.Column.{Column}
 
 -- columns with a name, and not too many

@@ -8,17 +8,19 @@ use Rattle.percent_encoding.specs.Percent.{percent_decode}
 use Rattle.aide_attr.specs.Attr.{bit_of, form_of, holder_of}
 use Rattle.aide_attr.specs.declared.attr.Attr.{Attr}
 use Rattle.aide_attr.specs.declared.form.Form.{Form}
-use Rattle.aide_entry.specs.Text.{fields, is_filled}
-use Rattle.aide_entry.specs.Path.{path_cmp}
-use Rattle.aide_entry.specs.Numbers.{bits_of}
+use Rattle.aide_attr.specs.declared.form.Form.TheVariants.{Time, Digest}
+use Rattle.aide_fields.specs.Text.{fields, is_filled}
+use Rattle.aide_fields.specs.Path.{path_cmp}
+use Rattle.aide_fields.specs.Numbers.{bits_of}
 use Rattle.aide_entry.specs.Fields.{field_under, is_name, is_bits, is_of}
-use Rattle.aide_entry.specs.Attributes.{Attributes, Entry, Value}
-use Rattle.aide_entry.specs.Values.{value_of, is_field, fault_of_form}
+use Rattle.aide_fields.specs.Attributes.{Attributes, Entry, Value}
+use Rattle.aide_fields.specs.Values.{value_of, is_field}
 use Rattle.aide_entry.specs.declared.column.Column.{Column}
 use Rattle.aide_entry.specs.declared.column.Column.TheVariants.{Name, Bits, Of, Skipped}
 use Rattle.aide_entry.specs.declared.fault_kind.DbFaultKind.{DbFaultKind}
 use Rattle.aide_entry.specs.declared.fault_kind.DbFaultKind.TheVariants.{FieldCount, BadName}
 use Rattle.aide_entry.specs.declared.fault_kind.DbFaultKind.TheVariants.{OutOfOrder, BadNumber}
+use Rattle.aide_entry.specs.declared.fault_kind.DbFaultKind.TheVariants.{BadDigest, BadTime}
 
 -- the field with the path, as it is written
 abbrev pub name_of : List Column → List ℕ → List ℕ
@@ -55,6 +57,12 @@ is_before columns x y = is_lt (path_cmp (path_of columns x) (path_of columns y))
 -- there is no last entry, or its path comes before the path of the line's entry
 abbrev pub follows : List Column → List ℕ → List ℕ → Bool
 follows columns last line = if is_filled last then is_before columns last line else true
+
+-- the fault of a column whose field is not one of this form
+abbrev pub fault_of_form : Form → ℕ → DbFaultKind
+fault_of_form Time column = BadTime column
+fault_of_form (Digest least most) column = BadDigest column
+fault_of_form _ column = BadNumber column
 
 -- the fault of a column whose field does not have its form
 abbrev pub fault_of_column : Column → ℕ → DbFaultKind

@@ -1,6 +1,6 @@
 -- Entry lines, and their order.
 use Rattle.std.specs.Prelude.{ℕ, ◌≡◌, true, List}
-use Rattle.aide_entry.specs.Text.{is_filled}
+use Rattle.aide_fields.specs.Text.{is_filled}
 use Rattle.aide_entry.specs.Lines.{kind_of}
 use Rattle.aide_entry.specs.Entry.{has_entry, is_before}
 use Rattle.aide_entry.specs.declared.column.Column.{Column}

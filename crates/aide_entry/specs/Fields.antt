@@ -6,7 +6,7 @@ use Rattle.std.specs.Str.{bytes_eq}
 use Rattle.aide_attr.specs.Attr.{attr_of_column}
 use Rattle.aide_attr.specs.Set.{is_attr}
 use Rattle.aide_attr.specs.declared.attr.Attr.{Attr}
-use Rattle.aide_entry.specs.Text.{fields}
+use Rattle.aide_fields.specs.Text.{fields}
 use Rattle.aide_entry.specs.declared.column.Column.{Column}
 use Rattle.aide_entry.specs.declared.column.Column.TheVariants.{Name, Bits, Of, Skipped}
 

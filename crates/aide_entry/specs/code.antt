@@ -2,7 +2,4 @@
 pub mod Codes
 pub mod FirstColumns
 pub mod ColumnAttrs
-pub mod Symbols
 pub mod Shapes
-pub mod TimeDigits
-pub mod Runs

@@ -4,7 +4,7 @@ ghost use Rattle.std.specs.Prelude.{take, map, All, ℕ, List, None, IfNone, IfS
 ghost use Rattle.std.specs.List.{list_any};
 ghost use Rattle.aide_entry.specs.Fields.{is_column, field_under};
 ghost use Rattle.aide_entry.specs.code.FirstColumns.{AreFirstColumns};
-ghost use Rattle.aide_entry.specs.Spans.{first_in};
+ghost use Rattle.aide_fields.specs.Spans.{first_in};
 ghost use Rattle.aide_entry.specs.declared.column.Column.{Column};
 ghost use Rattle.aide_entry.specs.Skipped.{skipped_in};
 ghost use Rattle.aide_entry.specs.code.Codes.{code_of};

@@ -2,18 +2,17 @@
 ghost use Rattle.std.specs.Prelude.{◌≡◌, is_some, true, false, None};
 ghost use Rattle.std.specs.List.{list_any};
 ghost use Rattle.std.specs.declared.cmp.Ordering.TheVariants.{Equal};
-ghost use Rattle.aide_entry.specs.Path.{path_cmp};
-ghost use Rattle.aide_entry.specs.Values.{value_of, is_field};
+ghost use Rattle.aide_fields.specs.Path.{path_cmp};
+ghost use Rattle.aide_fields.specs.Values.{value_of, is_field};
 ghost use Rattle.aide_entry.specs.View.{entry_in};
-ghost use Rattle.aide_entry.specs.Attributes.{number_order, is_different, sides_between};
+ghost use Rattle.aide_fields.specs.Attributes.{number_order, is_different, sides_between};
 ghost use Rattle.aide_attr.specs.Set.{has, is_attr};
 ghost use Rattle.aide_attr.specs.Difference.{sides_of};
 ghost use Rattle.aide_attr.specs.declared.attr.Attr.{Attr};
 
-use crate::path::cmp_paths;
-use crate::value::{differ, has_value};
 use crate::view::{View, ViewWithBits, with_if};
 use aide_attr::{Attr, AttrSet, Delta, Form};
+use aide_fields::{cmp_paths, differ, has_value};
 use std::cmp::Ordering;
 
 /// Compares the decoded paths of two entries in path order: component by component, each by its bytes. A path comes

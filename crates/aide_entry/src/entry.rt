@@ -12,24 +12,19 @@ ghost use Rattle.aide_entry.specs.code.FirstColumns.{bits_in, is_set};
 ghost use Rattle.aide_entry.specs.Cause.{IsOfText};
 ghost use Rattle.aide_entry.specs.Fields.{is_column, field_under};
 ghost use Rattle.aide_entry.specs.code.Shapes.{IsShort, first_misshapen_from};
-ghost use Rattle.aide_entry.specs.Spans.{AreSpans, fields_at};
-ghost use Rattle.aide_entry.specs.Text.{fields, last_of};
-ghost use Rattle.aide_entry.specs.Values.{IsTimeOrNothing};
+ghost use Rattle.aide_fields.specs.Spans.{AreSpans, fields_at};
+ghost use Rattle.aide_fields.specs.Text.{fields, last_of};
+ghost use Rattle.aide_fields.specs.Values.{IsTimeOrNothing};
 ghost use Rattle.aide_entry.specs.declared.fault_kind.DbFaultKind.TheVariants.{FieldCount};
 
-use crate::base64_tables::Base64Tables;
 use crate::column::Column;
 use crate::columns::Columns;
-use crate::decoded::Decoded;
 use crate::fault_kind::DbFaultKind;
 use crate::held_entry::HeldEntry;
-use crate::number::read_bits;
-use crate::path::cmp_paths;
 use crate::shape::{Shape, fault_of_shape, last_time};
-use crate::span::Span;
-use crate::spanned_line::SpannedLine;
-use crate::spans::Spans;
-use crate::value::is_nought;
+use aide_fields::{
+    Base64Tables, Decoded, Span, SpannedLine, Spans, cmp_paths, is_nought, read_bits,
+};
 use percent_encoding::percent_decode;
 use std::cmp::Ordering;
 

@@ -1,10 +1,10 @@
 //! What is kept of an entry while later lines are judged.
 ghost use Rattle.aide_entry.specs.Columns.{columns_in};
 ghost use Rattle.aide_entry.specs.EntryLines.{IsHeld};
-ghost use Rattle.aide_entry.specs.Spans.{AreHeldSpans};
+ghost use Rattle.aide_fields.specs.Spans.{AreHeldSpans};
 
 use crate::columns::Columns;
-use crate::spans::Spans;
+use aide_fields::Spans;
 
 /// An entry that someone else holds: its line, its columns and the spans of its fields. The line is empty if there is
 /// no entry.

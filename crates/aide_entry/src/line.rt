@@ -2,7 +2,7 @@
 ghost use Rattle.std.specs.Prelude.{◌≡◌};
 ghost use Rattle.aide_entry.specs.Lines.{kind_of_field, kind_of};
 
-use crate::fields::next_field;
+use aide_fields::next_field;
 
 /// The kind of a line, which its first field decides.
 #[derive(Clone, Copy)]

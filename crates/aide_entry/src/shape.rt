@@ -4,14 +4,12 @@ ghost use Rattle.aide_attr.specs.Attr.{most_bytes};
 ghost use Rattle.aide_entry.specs.Cause.{IsOfText};
 ghost use Rattle.aide_entry.specs.code.Shapes.{shape_of_form, shape_of, has_shape};
 ghost use Rattle.aide_entry.specs.code.Shapes.{IsShort, fault_of_shape};
-ghost use Rattle.aide_entry.specs.Values.{time_of, IsTimeOrNothing};
+ghost use Rattle.aide_fields.specs.Values.{time_of, IsTimeOrNothing};
 
-use crate::base64_tables::Base64Tables;
 use crate::column::Column;
 use crate::fault_kind::DbFaultKind;
-use crate::number::{is_bits, is_mode, is_number};
-use crate::value::{is_digest, is_nought, is_time};
 use aide_attr::Form;
+use aide_fields::{Base64Tables, is_bits, is_digest, is_mode, is_nought, is_number, is_time};
 
 /// What a field has to be. It is found once for a column, and looked up for each line.
 #[derive(Clone, Copy)]

@@ -7,8 +7,8 @@ ghost use Rattle.aide_entry.specs.Fields.{are_columns};
 
 use crate::column::{Column, is_column};
 use crate::columns::Columns;
-use crate::fields::next_field;
 use aide_attr::Attr;
+use aide_fields::next_field;
 
 #[tactic(auto, unfolding(crate::specs::Fields::column_named))]
 fn column_named(name: &[u8]) -> Column

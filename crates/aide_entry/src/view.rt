@@ -5,20 +5,17 @@ ghost use Rattle.aide_attr.specs.declared.attr.Attr.{Attr};
 ghost use Rattle.aide_entry.specs.Columns.{columns_in};
 ghost use Rattle.aide_entry.specs.code.FirstColumns.{bits_in};
 ghost use Rattle.aide_entry.specs.Entry.{has_entry};
-ghost use Rattle.aide_entry.specs.Spans.{AreSpans};
+ghost use Rattle.aide_fields.specs.Spans.{AreSpans};
 
-use crate::base64_tables::Base64Tables;
 use crate::column::Column;
 use crate::columns::Columns;
-use crate::decoded::Decoded;
 use crate::entry::{bits_of, field_under, is_on, name_of};
 use crate::held_entry::HeldEntry;
-use crate::number::{read_mode, read_number};
-use crate::spans::Spans;
-use crate::value::{
-    has_value, is_nought, read_digest, read_link, read_time, read_type, written_digest,
-};
 use aide_attr::{Attr, AttrSet, FileType, Form};
+use aide_fields::{
+    Base64Tables, Decoded, Spans, has_value, is_nought, read_digest, read_link, read_mode,
+    read_number, read_time, read_type, written_digest,
+};
 use percent_encoding::percent_decode;
 
 /// Returns the set, with the attribute added if it belongs there.
@@ -73,11 +70,11 @@ impl<'a> View<'a> {
     ghost use Rattle.base64.specs.GeneralPurpose.{encode_of};
     ghost use Rattle.percent_encoding.specs.Iter.{decoded_bytes};
     ghost use Rattle.aide_entry.specs.View.{entry_in, name_in};
-    ghost use Rattle.aide_entry.specs.Attributes.{type_in, number_in, link_in, digest_in};
-    ghost use Rattle.aide_entry.specs.Attributes.{opaque_in};
+    ghost use Rattle.aide_fields.specs.Attributes.{type_in, number_in, link_in, digest_in};
+    ghost use Rattle.aide_fields.specs.Attributes.{opaque_in};
     ghost use Rattle.aide_entry.specs.Entry.{field_of};
-    ghost use Rattle.aide_entry.specs.Lent.{IsDigest, lent_link};
-    ghost use Rattle.aide_entry.specs.Values.{IsTimeOrNothing};
+    ghost use Rattle.aide_fields.specs.Lent.{IsDigest, lent_link};
+    ghost use Rattle.aide_fields.specs.Values.{IsTimeOrNothing};
 
     /// Returns the path of the entry twice: the field as it is written, and the decoded bytes.
     pub fn name(&self) -> (&'a [u8], Decoded<'a>)

@@ -7,7 +7,7 @@ use Rattle.aide_agreement.specs.Account.{Pair}
 use Rattle.aide_attr.specs.declared.attr.Attr.TheVariants.{Ftype, Gid, Perm, Uid}
 use Rattle.aide_attr.specs.declared.file_type.FileType.{FileType}
 use Rattle.aide_attr.specs.declared.file_type.FileType.TheVariants.{Directory}
-use Rattle.aide_entry.specs.Attributes.{Attributes, type_in}
+use Rattle.aide_fields.specs.Attributes.{Attributes, type_in}
 use Rattle.aide_patterns.specs.Line.{RuleText}
 use Rattle.aide_left_out.specs.LeftOut.{has_entry, has_program, is_harmless_if, left_out, line_at, may_go}
 use Rattle.aide_left_out.specs.Meaning.{GivesRight, IsHarmless, IsLeftOut, IsThere, KeepsWriters}

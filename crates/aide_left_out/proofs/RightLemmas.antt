@@ -6,7 +6,7 @@ use Rattle.aide_agreement.specs.Own.{is_device}
 use Rattle.aide_attr.specs.declared.attr.Attr.TheVariants.{Caps, Ftype, Perm, Uid}
 use Rattle.aide_attr.specs.declared.file_type.FileType.{FileType}
 use Rattle.aide_attr.specs.declared.file_type.FileType.TheVariants as kinds
-use Rattle.aide_entry.specs.Attributes.{Attributes, Value, number_in, type_in}
+use Rattle.aide_fields.specs.Attributes.{Attributes, Value, number_in, type_in}
 use Rattle.aide_left_out.specs.Meaning.{IsHarmless}
 use Rattle.aide_left_out.specs.Rights.{gives_id, has_bit, has_capabilities, is_harmless, is_harmless_as, is_harmless_by}
 use Rattle.aide_left_out.specs.Rights.{is_known, is_open_device, is_root, is_within_reach, mode_in}

@@ -5,7 +5,7 @@ use Rattle.std.proofs.lemmas.Bool.{and_from, and_parts, not-false, not-true, not
 use Rattle.aide_attr.specs.declared.attr.Attr.{Attr}
 use Rattle.aide_attr.specs.declared.attr.Attr.TheVariants.{Acl, Gid, Perm, Uid}
 use Rattle.aide_attr.proofs.WalkLemmas.{bool_cases}
-use Rattle.aide_entry.specs.Attributes.{Attributes, Value, is_different}
+use Rattle.aide_fields.specs.Attributes.{Attributes, Value, is_different}
 use Rattle.aide_agreement.proofs.SideLemmas.{unaffected_at}
 use Rattle.aide_left_out.specs.Meaning.{KeepsWriters}
 use Rattle.aide_left_out.specs.Writers.{admits_writers, gains_writers, is_directory, is_kept, keeps_writers, knows_writers}

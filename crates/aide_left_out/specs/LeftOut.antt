@@ -2,7 +2,7 @@
 use Rattle.std.specs.Prelude.{ℕ, nat_le, Bool, true, false, not, ◌&&◌, ◌||◌, if◌then◌else◌, length}
 use Rattle.std.specs.Prelude.{Option, Some, None, List, []}
 use Rattle.aide_agreement.specs.Account.{Pair}
-use Rattle.aide_entry.specs.Attributes.{Attributes}
+use Rattle.aide_fields.specs.Attributes.{Attributes}
 use Rattle.aide_entry.specs.View.{entry_in}
 use Rattle.aide_entry.specs.declared.view.View.{View}
 use Rattle.aide_patterns.specs.Line.{RuleText}

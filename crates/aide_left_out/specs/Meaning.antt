@@ -6,7 +6,7 @@ use Rattle.aide_agreement.specs.Own.{is_device}
 use Rattle.aide_attr.specs.declared.attr.Attr.TheVariants.{Acl, Caps, Ftype, Gid, Perm, Uid}
 use Rattle.aide_attr.specs.declared.file_type.FileType.{FileType}
 use Rattle.aide_attr.specs.declared.file_type.FileType.TheVariants.{Directory, Link, Other}
-use Rattle.aide_entry.specs.Attributes.{Attributes, number_in, type_in}
+use Rattle.aide_fields.specs.Attributes.{Attributes, number_in, type_in}
 use Rattle.aide_patterns.specs.Line.{RuleText}
 use Rattle.aide_patterns.specs.Rules.{IsFirst}
 use Rattle.aide_left_out.specs.LeftOut.{has_program, longest_path}

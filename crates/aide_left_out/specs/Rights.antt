@@ -6,7 +6,7 @@ use Rattle.aide_attr.specs.declared.attr.Attr.TheVariants.{Caps, Ftype, Perm, Ui
 use Rattle.aide_attr.specs.declared.file_type.FileType.{FileType}
 use Rattle.aide_attr.specs.declared.file_type.FileType.TheVariants.{Block, Char, Directory, File}
 use Rattle.aide_attr.specs.declared.file_type.FileType.TheVariants.{Link, Other}
-use Rattle.aide_entry.specs.Attributes.{Attributes, Value, number_in, type_in}
+use Rattle.aide_fields.specs.Attributes.{Attributes, Value, number_in, type_in}
 
 -- a number as permissions: none if it is missing, negative or above 4095
 abbrev pub mode_by : Option ℤ → Option ℕ

@@ -6,7 +6,7 @@ use Rattle.aide_attr.specs.declared.attr.Attr.{Attr}
 use Rattle.aide_attr.specs.declared.attr.Attr.TheVariants.{Acl, Ftype, Gid, Perm, Uid}
 use Rattle.aide_attr.specs.declared.file_type.FileType.{FileType}
 use Rattle.aide_attr.specs.declared.file_type.FileType.TheVariants.{Directory}
-use Rattle.aide_entry.specs.Attributes.{Attributes, sides_between, type_in}
+use Rattle.aide_fields.specs.Attributes.{Attributes, sides_between, type_in}
 use Rattle.aide_left_out.specs.Rights.{has_bit, mode_in}
 
 -- the type is that of directories

@@ -1,7 +1,7 @@
 //! Which entries give somebody a right.
 ghost use Rattle.std.specs.Prelude.{◌≡◌, ◌<◌};
 ghost use Rattle.aide_attr.specs.declared.attr.Attr.TheVariants.{Caps, Perm, Uid};
-ghost use Rattle.aide_entry.specs.Attributes.{number_in};
+ghost use Rattle.aide_fields.specs.Attributes.{number_in};
 ghost use Rattle.aide_entry.specs.View.{entry_in};
 ghost use Rattle.aide_left_out.specs.Rights.{gives_id, has_bit, has_capabilities, is_harmless};
 ghost use Rattle.aide_left_out.specs.Rights.{is_harmless_as, is_known, is_of_program};

@@ -6,7 +6,8 @@ ghost use Rattle.aide_entry.specs.View.{entry_in};
 ghost use Rattle.aide_left_out.specs.LeftOut.{line_at};
 ghost use Rattle.aide_left_out.specs.Settings.{is_at, is_setting};
 
-use aide_entry::{Decoded, View};
+use aide_entry::View;
+use aide_fields::Decoded;
 use aide_patterns::Exclusions;
 
 /// AIDE sees no path of more than 4,095 bytes. In a directory at this path it sees each entry: a slash and a name of

@@ -3,7 +3,7 @@ ghost use Rattle.std.specs.Prelude.{◌≡◌, not};
 ghost use Rattle.aide_attr.specs.Difference.{is_affected};
 ghost use Rattle.aide_attr.specs.Set.{has};
 ghost use Rattle.aide_attr.specs.declared.attr.Attr.{Attr};
-ghost use Rattle.aide_entry.specs.Attributes.{sides_between};
+ghost use Rattle.aide_fields.specs.Attributes.{sides_between};
 ghost use Rattle.aide_entry.specs.View.{entry_in};
 ghost use Rattle.aide_agreement.specs.Found.{found};
 ghost use Rattle.aide_left_out.specs.Writers.{admits_writers, gains_writers, is_directory};

@@ -14,7 +14,7 @@ use Rattle.aide_attr.specs.declared.attr.Attr.{Attr}
 use Rattle.aide_attr.specs.declared.delta.Ignore.{Ignore}
 use Rattle.aide_conf.specs.declared.options.Options.{Options}
 use Rattle.aide_db.specs.Map.{Database}
-use Rattle.aide_entry.specs.Attributes.{sides_between}
+use Rattle.aide_fields.specs.Attributes.{sides_between}
 use Rattle.aide_line_text.specs.declared.account.Account.TheVariants.{Trusted}
 use Rattle.aide_merge.specs.Changed.{differ_by}
 use Rattle.aide_merge.specs.Said.{all_listed, is_in}

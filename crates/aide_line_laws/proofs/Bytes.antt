@@ -12,12 +12,12 @@ use Rattle.aide_attr.specs.Attr.{form_of}
 use Rattle.aide_attr.specs.declared.attr.Attr.{Attr}
 use Rattle.aide_attr.specs.declared.form.Form.{Form}
 use Rattle.aide_attr.specs.declared.form.Form.TheVariants.{Kind, Mode, Number, Time, Link, Digest, Opaque}
-use Rattle.aide_entry.specs.Attributes.{Value, number_value, mode_value, type_value, digest_value}
+use Rattle.aide_fields.specs.Attributes.{Value, number_value, mode_value, type_value, digest_value}
 use Rattle.aide_entry.specs.Entry.{path_of, attributes_of, field_of, value_in}
 use Rattle.aide_entry.specs.Fields.{field_under, is_name}
-use Rattle.aide_entry.specs.Numbers.{mode_of, number_of}
-use Rattle.aide_entry.specs.Text.{fields, is_blank, is_filled}
-use Rattle.aide_entry.specs.Values.{type_of_mode, time_of, digest_of, of_length, link_of, link_text, value_of}
+use Rattle.aide_fields.specs.Numbers.{mode_of, number_of}
+use Rattle.aide_fields.specs.Text.{fields, is_blank, is_filled}
+use Rattle.aide_fields.specs.Values.{type_of_mode, time_of, digest_of, of_length, link_of, link_text, value_of}
 use Rattle.aide_entry.specs.declared.column.Column.{Column}
 use Rattle.base64.specs.Engines.{standard}
 use Rattle.base64.specs.GeneralPurpose.{decoded_of}

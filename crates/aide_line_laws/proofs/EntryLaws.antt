@@ -11,7 +11,7 @@ use Rattle.aide_attr.specs.declared.attr.Attr.{Attr}
 use Rattle.aide_attr.specs.declared.attr.Attr.TheVariants as attr
 use Rattle.aide_attr.specs.declared.file_type.FileType.{FileType}
 use Rattle.aide_attr.specs.declared.file_type.FileType.TheVariants as kind
-use Rattle.aide_entry.specs.Attributes.{Attributes, Value, number_value, mode_value, type_value, link_value, digest_value, opaque_value}
+use Rattle.aide_fields.specs.Attributes.{Attributes, Value, number_value, mode_value, type_value, link_value, digest_value, opaque_value}
 use Rattle.aide_json.specs.Value.{member_if_any}
 use Rattle.aide_line_text.specs.Attribute.{attribute_member, value_member}
 use Rattle.aide_line_text.specs.Entry.{account_member, entry_line, entry_member, path_members, type_member}

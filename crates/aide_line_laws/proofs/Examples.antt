@@ -27,15 +27,15 @@ use Rattle.aide_attr.specs.declared.file_type.FileType.TheVariants.{Block, Direc
 use Rattle.aide_attr.specs.declared.form.Form.TheVariants.{Kind, Link, Mode, Opaque}
 use Rattle.aide_attr.specs.declared.set.AttrSet.{AttrSet}
 use Rattle.aide_db.specs.Map.{entries_of}
-use Rattle.aide_entry.specs.Attributes.{Attributes, Value, digest_value, is_different, link_value, mode_value, number_value}
-use Rattle.aide_entry.specs.Attributes.{same_value, sides_between, type_value}
+use Rattle.aide_fields.specs.Attributes.{Attributes, Value, digest_value, is_different, link_value, mode_value, number_value}
+use Rattle.aide_fields.specs.Attributes.{same_value, sides_between, type_value}
 use Rattle.aide_entry.specs.Entry.{attributes_of, is_on, path_of, value_in}
 use Rattle.aide_entry.specs.Fields.{column_named, columns_of}
 use Rattle.aide_entry.specs.Lines.{kind_of, kind_of_field}
-use Rattle.aide_entry.specs.Numbers.{bits_of, mode_of, natural_of, number_of}
-use Rattle.aide_entry.specs.Path.{path_cmp}
-use Rattle.aide_entry.specs.Text.{fields, lines}
-use Rattle.aide_entry.specs.Values.{link_of}
+use Rattle.aide_fields.specs.Numbers.{bits_of, mode_of, natural_of, number_of}
+use Rattle.aide_fields.specs.Path.{path_cmp}
+use Rattle.aide_fields.specs.Text.{fields, lines}
+use Rattle.aide_fields.specs.Values.{link_of}
 use Rattle.aide_entry.specs.declared.column.Column.TheVariants.{Bits, Name, Of, Skipped}
 use Rattle.aide_entry.specs.declared.line.LineKind.TheVariants.{Blank, End}
 use Rattle.aide_line_text.specs.declared.account.Account.TheVariants.{LeftOut, Old, Trusted}

@@ -6,11 +6,11 @@ use Rattle.aide_attr.specs.Attr.{attr_of_column, row, row_of}
 use Rattle.aide_entry.specs.Entry.{is_path}
 use Rattle.aide_entry.specs.Fields.{column_named}
 use Rattle.aide_entry.specs.Lines.{kind_of, kind_of_field}
-use Rattle.aide_entry.specs.Numbers.{natural_of, number_of}
-use Rattle.aide_entry.specs.Path.{path_cmp}
-use Rattle.aide_entry.specs.Text.{fields, lines, unfinished_line}
+use Rattle.aide_fields.specs.Numbers.{natural_of, number_of}
+use Rattle.aide_fields.specs.Path.{path_cmp}
+use Rattle.aide_fields.specs.Text.{fields, lines, unfinished_line}
 use Rattle.aide_entry.specs.declared.fault_kind.DbFaultKind.TheVariants.{OutOfOrder}
-use Rattle.aide_entry.proofs.Literals.{percent_encoding_on_literals}
+use Rattle.aide_fields.proofs.Literals.{percent_encoding_on_literals}
 use Rattle.aide_db.specs.Database.{IsFirstFault, whole_lines}
 use Rattle.aide_db.specs.code.LineFault.{line_fault}
 use Rattle.aide_db.specs.Map.{entries_of}

@@ -13,7 +13,7 @@ use Rattle.aide_attr.specs.declared.file_type.FileType.{FileType}
 use Rattle.aide_attr.specs.declared.file_type.FileType.TheVariants as kind
 use Rattle.aide_attr.specs.declared.summary_string.Alone.{Alone}
 use Rattle.aide_attr.specs.declared.summary_string.Alone.TheVariants.{Added, Removed}
-use Rattle.aide_entry.specs.Attributes.{sides_between, type_in}
+use Rattle.aide_fields.specs.Attributes.{sides_between, type_in}
 use Rattle.aide_merge.specs.Said.{letters_of}
 use Rattle.aide_line_laws.specs.Readable.{is_plain, are_plain}
 

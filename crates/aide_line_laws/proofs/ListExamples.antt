@@ -5,7 +5,7 @@ use Rattle.aide_attr.specs.Attr.{attr_of_column, row, row_of}
 use Rattle.aide_attr.specs.declared.attr.Attr.TheVariants.{Caps, Sha256, Uid}
 use Rattle.aide_entry.specs.Columns.{has_column}
 use Rattle.aide_entry.specs.Fields.{column_named, columns_of}
-use Rattle.aide_entry.specs.Text.{fields}
+use Rattle.aide_fields.specs.Text.{fields}
 use Rattle.aide_left_out.specs.LeftOut.{left_out}
 use Rattle.aide_left_out.specs.Meaning.{GivesRight, IsHarmless, IsLeftOut, KeepsWriters, by_user_id}
 use Rattle.aide_left_out.specs.Rights.{has_bit, is_of_program}

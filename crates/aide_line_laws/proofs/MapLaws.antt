@@ -20,9 +20,9 @@ use Rattle.aide_conf.specs.declared.options.Options.{Options}
 use Rattle.aide_db.specs.Database.{IsSound}
 use Rattle.aide_db.specs.Map.{Database, database_of}
 use Rattle.aide_db.specs.declared.limits.Limits.{Limits}
-use Rattle.aide_entry.specs.Attributes.{Attributes}
-use Rattle.aide_entry.specs.Path.{path_cmp}
-use Rattle.aide_entry.proofs.PathLaws.{path_cmp_total, path_cmp-IsAntisymmetric}
+use Rattle.aide_fields.specs.Attributes.{Attributes}
+use Rattle.aide_fields.specs.Path.{path_cmp}
+use Rattle.aide_fields.proofs.PathLaws.{path_cmp_total, path_cmp-IsAntisymmetric}
 use Rattle.aide_left_out.proofs.Laws.{left_out_from, left_out_means}
 use Rattle.aide_line_text.specs.declared.account.Account.{Account}
 use Rattle.aide_line_text.specs.declared.account.Account.TheVariants.{LeftOut, Old, Trusted}

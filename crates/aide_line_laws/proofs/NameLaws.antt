@@ -9,7 +9,7 @@ use Rattle.aide_attr.specs.Attr.{all_attrs, count, detail_name_of, index, row_of
 use Rattle.aide_attr.specs.Set.{is_attr}
 use Rattle.aide_attr.specs.declared.attr.Attr.{Attr}
 use Rattle.aide_attr.specs.declared.attr.Attr.TheVariants as attr
-use Rattle.aide_entry.specs.Attributes.{Attributes, Value, number_value, mode_value, type_value, link_value, digest_value, opaque_value}
+use Rattle.aide_fields.specs.Attributes.{Attributes, Value, number_value, mode_value, type_value, link_value, digest_value, opaque_value}
 use Rattle.aide_attr.proofs.AttrLemmas.{at_index, index_small}
 use Rattle.aide_json.specs.Value.{Member, member_if_any, text_member}
 use Rattle.aide_line_text.specs.Attribute.{attribute_member, attribute_members, value_member}

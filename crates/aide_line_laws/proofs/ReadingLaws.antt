@@ -10,7 +10,7 @@ use Rattle.json.specs.Json.{Json, object, string}
 use Rattle.aide_agreement.specs.Account.{Pair}
 use Rattle.aide_attr.specs.declared.attr.Attr.{Attr}
 use Rattle.aide_conf.specs.declared.options.Options.{Options}
-use Rattle.aide_entry.specs.Attributes.{Attributes}
+use Rattle.aide_fields.specs.Attributes.{Attributes}
 use Rattle.aide_agreement.specs.Kind.{kind_word, type_at}
 use Rattle.aide_json.specs.Value.{Member, Value, member_if_any, text_member}
 use Rattle.aide_json.specs.Value as written

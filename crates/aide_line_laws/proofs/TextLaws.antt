@@ -13,13 +13,13 @@ use Rattle.aide_db.specs.Giving.{before_end, entry_lines, columns_of_text}
 use Rattle.aide_db.specs.Map.{database_of, entries_of}
 use Rattle.aide_db.specs.declared.limits.Limits.{Limits}
 use Rattle.aide_db.proofs.MapLaws.{entries-database_of}
-use Rattle.aide_entry.specs.Attributes.{Entry}
+use Rattle.aide_fields.specs.Attributes.{Entry}
 use Rattle.aide_entry.specs.Entry.{entry_of}
 use Rattle.aide_entry.specs.Lines.{counts, is_end}
-use Rattle.aide_entry.specs.Path.{path_cmp}
-use Rattle.aide_entry.specs.Text.{lines, is_newline, is_filled, without_empty_last}
+use Rattle.aide_fields.specs.Path.{path_cmp}
+use Rattle.aide_fields.specs.Text.{lines, is_newline, is_filled, without_empty_last}
 use Rattle.aide_entry.specs.declared.column.Column.{Column}
-use Rattle.aide_entry.proofs.PathLaws.{path_cmp_total, path_cmp-IsAntisymmetric}
+use Rattle.aide_fields.proofs.PathLaws.{path_cmp_total, path_cmp-IsAntisymmetric}
 use Rattle.aide_line_run.specs.ChangeLines.{Accounts, change_line, change_lines}
 use Rattle.aide_merge.specs.Compare.{changes}
 use Rattle.aide_merge.specs.Said.{PathChange}

@@ -2,7 +2,7 @@
 use Rattle.std.specs.Prelude.{ℕ, ◌<◌, List, Option, Some, None, ⊤}
 use Rattle.std.specs.List.{AllByRecursion}
 use Rattle.aide_attr.specs.declared.attr.Attr.{Attr}
-use Rattle.aide_entry.specs.Attributes.{Attributes, Value, link_value, digest_value, opaque_value}
+use Rattle.aide_fields.specs.Attributes.{Attributes, Value, link_value, digest_value, opaque_value}
 
 -- the text is of bytes
 abbrev pub AreBytes : List ℕ → Type 0

@@ -8,7 +8,7 @@ use Rattle.aide_agreement.specs.Happened.{HappenedThere}
 use Rattle.aide_agreement.specs.Meaning.{Agrees}
 use Rattle.aide_attr.specs.declared.delta.Ignore.{Ignore}
 use Rattle.aide_db.specs.Map.{Database}
-use Rattle.aide_entry.specs.Attributes.{Attributes}
+use Rattle.aide_fields.specs.Attributes.{Attributes}
 use Rattle.aide_json.specs.Number.{count}
 use Rattle.aide_left_out.specs.Meaning.{IsLeftOut}
 use Rattle.aide_line_text.specs.declared.account.Account.{Account}

@@ -9,7 +9,7 @@ use Rattle.aide_db.specs.Map.{database_of}
 use Rattle.aide_db.specs.declared.limits.Limits.{Limits}
 use Rattle.aide_db.specs.declared.reel.Reel.{Ghosts as Reels}
 use Rattle.aide_db.specs.declared.side.Side.TheVariants.{Old, New}
-use Rattle.aide_entry.specs.Path.{path_cmp}
+use Rattle.aide_fields.specs.Path.{path_cmp}
 use Rattle.aide_text.specs.Sent.{SendsPart}
 use Rattle.aide_text.proofs.Sending.{Appends-nothing}
 use Rattle.aide_merge.specs.Asked.{Asked}

@@ -5,11 +5,11 @@ use Rattle.std.proofs.lemmas.Bool.{cases_lt, leb-false}
 use Rattle.std.proofs.lemmas.List.{length-append, take-append-drop}
 use Rattle.std.specs.FinMap.{entries, entries-from_sorted, entries_sorted}
 use Rattle.std.specs.FinMap.Entries.{below_all, is_sorted}
-use Rattle.aide_entry.specs.Attributes.{Entry}
-use Rattle.aide_entry.specs.Path.{path_cmp}
-use Rattle.aide_entry.specs.Text.{ended_lines, is_filled, lines, unfinished_line}
+use Rattle.aide_fields.specs.Attributes.{Entry}
+use Rattle.aide_fields.specs.Path.{path_cmp}
+use Rattle.aide_fields.specs.Text.{ended_lines, is_filled, lines, unfinished_line}
 use Rattle.aide_entry.specs.declared.fault_kind.DbFaultKind.{DbFaultKind}
-use Rattle.aide_entry.proofs.PathLaws.{path_cmp_total, path_cmp-IsAntisymmetric}
+use Rattle.aide_fields.proofs.PathLaws.{path_cmp_total, path_cmp-IsAntisymmetric}
 use Rattle.aide_db.specs.Database.{IsFirstFault, IsFront, IsSound, whole_lines}
 use Rattle.aide_db.specs.Map.{database_of, entries_of}
 use Rattle.aide_db.specs.code.TakeLine.{HasNoNewline}

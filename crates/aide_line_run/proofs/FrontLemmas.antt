@@ -3,9 +3,9 @@ use Rattle.std.specs.Prelude.{◌≡◌, ◌≢◌, ◌≤◌, ◌⊎◌, ℕ, B
 use Rattle.std.specs.Prelude.{take, drop, Option, IsSome}
 use Rattle.std.proofs.Common.{◌∙◌, ap, append-nil, append_assoc, inl, inr, refl, subst, sym}
 use Rattle.std.proofs.lemmas.List.{append_cancel_right}
-use Rattle.aide_entry.specs.Attributes.{Entry}
-use Rattle.aide_entry.specs.Path.{path_cmp}
-use Rattle.aide_entry.specs.Text.{lines}
+use Rattle.aide_fields.specs.Attributes.{Entry}
+use Rattle.aide_fields.specs.Path.{path_cmp}
+use Rattle.aide_fields.specs.Text.{lines}
 use Rattle.aide_entry.specs.View.{entry_at}
 use Rattle.aide_entry.specs.declared.column.Column.{Column}
 use Rattle.aide_db.specs.Answer.{Stands, StandsAtStage, StandsIn}

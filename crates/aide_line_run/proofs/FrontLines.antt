@@ -7,11 +7,11 @@ use Rattle.std.proofs.lemmas.Bool.{cases_lt}
 use Rattle.std.proofs.lemmas.List.{drop-append-le, length-append, length-drop, map-append, take-append-drop}
 use Rattle.std.proofs.lemmas.List.{take-append-le}
 use Rattle.std.proofs.lemmas.List.Elements.{filter-append}
-use Rattle.aide_entry.specs.Attributes.{Entry}
+use Rattle.aide_fields.specs.Attributes.{Entry}
 use Rattle.aide_entry.specs.Entry.{entry_of}
 use Rattle.aide_entry.specs.Fields.{columns_of}
 use Rattle.aide_entry.specs.Lines.{counts, is_end}
-use Rattle.aide_entry.specs.Text.{ended_lines, lines, unfinished_line}
+use Rattle.aide_fields.specs.Text.{ended_lines, lines, unfinished_line}
 use Rattle.aide_entry.specs.declared.column.Column.{Column}
 use Rattle.aide_entry.specs.declared.fault_kind.DbFaultKind.{DbFaultKind}
 use Rattle.aide_db.specs.Database.{IsFirstFault, counted, whole_lines}

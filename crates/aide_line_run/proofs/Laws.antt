@@ -10,9 +10,9 @@ use Rattle.aide_agreement.specs.Account.{Pair, same_as}
 use Rattle.aide_db.specs.Database.{IsSound}
 use Rattle.aide_db.specs.Map.{Database, database_of}
 use Rattle.aide_db.specs.declared.limits.Limits.{Limits}
-use Rattle.aide_entry.specs.Attributes.{Attributes}
-use Rattle.aide_entry.specs.Path.{path_cmp}
-use Rattle.aide_entry.proofs.PathLaws.{path_cmp_total, path_cmp-IsAntisymmetric}
+use Rattle.aide_fields.specs.Attributes.{Attributes}
+use Rattle.aide_fields.specs.Path.{path_cmp}
+use Rattle.aide_fields.proofs.PathLaws.{path_cmp_total, path_cmp-IsAntisymmetric}
 use Rattle.aide_merge.specs.Compare.{changes, compared}
 use Rattle.aide_merge.specs.Said.{PathChange}
 use Rattle.aide_merge.specs.code.Merging.{pass_of}

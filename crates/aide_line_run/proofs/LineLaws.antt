@@ -4,8 +4,8 @@ use Rattle.std.specs.Prelude.{◌||◌}
 use Rattle.std.proofs.lemmas.List.Sums.{length-filter}
 use Rattle.aide_conf.specs.declared.options.Options.{Options}
 use Rattle.aide_db.specs.Map.{Database}
-use Rattle.aide_entry.specs.Path.{path_cmp}
-use Rattle.aide_entry.proofs.PathLaws.{path_cmp_total, path_cmp-IsAntisymmetric}
+use Rattle.aide_fields.specs.Path.{path_cmp}
+use Rattle.aide_fields.proofs.PathLaws.{path_cmp_total, path_cmp-IsAntisymmetric}
 use Rattle.aide_line_run.specs.ChangeLines.{Accounts, listed_changes, widest}
 use Rattle.aide_merge.specs.Changed.{differ_by}
 use Rattle.aide_merge.specs.Changes.{is_added, is_removed, is_changed}

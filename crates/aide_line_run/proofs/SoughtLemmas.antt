@@ -8,9 +8,9 @@ use Rattle.std.specs.List.{flat_map}
 use Rattle.std.specs.FinMap.Entries.{is_sorted, below_all}
 use Rattle.aide_agreement.specs.Account.{Pair, same_as}
 use Rattle.aide_line_text.specs.declared.account.Account.{Account}
-use Rattle.aide_entry.specs.Attributes.{Entry}
-use Rattle.aide_entry.specs.Path.{path_cmp}
-use Rattle.aide_entry.proofs.PathLaws.{path_cmp_total}
+use Rattle.aide_fields.specs.Attributes.{Entry}
+use Rattle.aide_fields.specs.Path.{path_cmp}
+use Rattle.aide_fields.proofs.PathLaws.{path_cmp_total}
 use Rattle.aide_merge.specs.Said.{PathChange}
 use Rattle.aide_merge.specs.code.ChangeView.{alike_of}
 use Rattle.aide_merge.proofs.MergeLemmas.{and_first, and_second}

@@ -7,7 +7,7 @@ use Rattle.std.proofs.lemmas.List.{append-nil}
 use Rattle.std.proofs.lemmas.List.Sums.{count_by-le-length, sum_by-append}
 use Rattle.aide_line_text.specs.declared.account.Account.{Account}
 use Rattle.aide_conf.specs.declared.options.Options.{Options}
-use Rattle.aide_entry.specs.Attributes.{Entry}
+use Rattle.aide_fields.specs.Attributes.{Entry}
 use Rattle.aide_line_text.specs.declared.counts.LineCounts.{LineCounts}
 use Rattle.aide_line_run.specs.ChangeLines.{Accounts, change_line, change_lines, listed_changes}
 use Rattle.aide_line_run.specs.ChangeLines.{listed_line}

@@ -9,7 +9,7 @@ use Rattle.aide_db.specs.CursorView.{CursorView}
 use Rattle.aide_db.specs.DeskView.{DeskView}
 use Rattle.aide_db.specs.declared.reel.Reel.{Ghosts as Reels}
 use Rattle.aide_db.specs.declared.side.Side.TheVariants.{Old, New}
-use Rattle.aide_entry.specs.Attributes.{Entry}
+use Rattle.aide_fields.specs.Attributes.{Entry}
 use Rattle.aide_line_text.specs.declared.counts.LineCounts.{LineCounts}
 use Rattle.aide_merge.specs.Said.{PathChange}
 use Rattle.aide_merge.specs.code.ChangeView.{alike_of}

@@ -2,7 +2,7 @@
 use Rattle.std.specs.Prelude.{◌≡◌, ◌+◌, ◌⊎◌, ℕ, List, [], ◌++◌, length}
 use Rattle.aide_db.specs.Database.{IsFirstFault, IsSound}
 use Rattle.aide_db.specs.declared.limits.Limits.{Limits}
-use Rattle.aide_entry.specs.Text.{lines, unfinished_line}
+use Rattle.aide_fields.specs.Text.{lines, unfinished_line}
 use Rattle.aide_entry.specs.declared.fault_kind.DbFaultKind.{DbFaultKind}
 
 -- the lines of a text before its first fault: the fault is at the line behind them

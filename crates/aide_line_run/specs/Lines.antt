@@ -7,7 +7,7 @@ use Rattle.sha2.specs.Sha256.{sha256}
 use Rattle.aide_agreement.specs.Account.{same_as}
 use Rattle.aide_db.specs.Giving.{columns_of_text}
 use Rattle.aide_db.specs.Map.{Database, database_of}
-use Rattle.aide_entry.specs.Path.{path_cmp}
+use Rattle.aide_fields.specs.Path.{path_cmp}
 use Rattle.aide_entry.specs.Skipped.{skipped_in}
 use Rattle.aide_line_text.specs.Frame.{ReadFacts, closing_line, opening_line}
 use Rattle.aide_line_text.specs.declared.counts.LineCounts.{LineCounts}

@@ -8,7 +8,7 @@ use Rattle.aide_db.specs.Map.{database_of, entries_of}
 use Rattle.aide_db.specs.declared.fault.DbFault.{DbFault}
 use Rattle.aide_db.specs.declared.limits.Limits.{Limits}
 use Rattle.aide_db.specs.declared.side.Side.TheVariants.{Old, New}
-use Rattle.aide_entry.specs.Path.{path_cmp}
+use Rattle.aide_fields.specs.Path.{path_cmp}
 use Rattle.aide_merge.specs.Asked.{Asked}
 use Rattle.aide_merge.specs.Bound.{three_lines}
 use Rattle.aide_merge.specs.Compare.{changes}

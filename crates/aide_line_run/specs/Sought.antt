@@ -4,7 +4,7 @@ use Rattle.std.specs.List.{flat_map}
 use Rattle.std.specs.Ordering.{is_eq, is_lt}
 use Rattle.aide_agreement.specs.Account.{Pair, same_as}
 use Rattle.aide_line_text.specs.declared.account.Account.{Account}
-use Rattle.aide_entry.specs.Path.{path_cmp}
+use Rattle.aide_fields.specs.Path.{path_cmp}
 use Rattle.aide_conf.specs.declared.options.Options.{Options}
 use Rattle.aide_line_run.specs.ChangeLines.{Accounts, listed_line}
 use Rattle.aide_merge.specs.Said.{PathChange}

@@ -2,7 +2,7 @@
 ghost use Rattle.std.specs.Prelude.{◌≡◌};
 ghost use Rattle.std.specs.Ordering.{is_eq, is_lt};
 ghost use Rattle.aide_agreement.specs.Found.{found};
-ghost use Rattle.aide_entry.specs.Path.{path_cmp};
+ghost use Rattle.aide_fields.specs.Path.{path_cmp};
 ghost use Rattle.aide_entry.specs.View.{entry_in};
 ghost use Rattle.aide_left_out.specs.LeftOut.{path_of};
 ghost use Rattle.aide_merge.specs.code.ChangeView.{change_of};

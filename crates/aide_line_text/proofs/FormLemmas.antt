@@ -7,7 +7,7 @@ use Rattle.aide_attr.specs.declared.attr.Attr.{Attr}
 use Rattle.aide_attr.specs.declared.attr.Attr.TheVariants.{Ftype, Lname}
 use Rattle.aide_attr.specs.declared.form.Form.TheVariants.{Kind, Link}
 use Rattle.aide_entry.proofs.FormLaws.{kind_answers, link_answers}
-use Rattle.aide_entry.specs.Attributes.{Value, type_in, link_in, type_value, link_value}
+use Rattle.aide_fields.specs.Attributes.{Value, type_in, link_in, type_value, link_value}
 use Rattle.aide_entry.specs.Entry.{attributes_of}
 use Rattle.aide_entry.specs.declared.column.Column.{Column}
 use Rattle.aide_json.specs.Value.{print_member, text_or_null, word}

@@ -7,7 +7,7 @@ use Rattle.aide_agreement.specs.Account.{Pair}
 use Rattle.aide_agreement.specs.Kind.{kind_word, type_at}
 use Rattle.aide_attr.specs.Attr.{detail_name_of}
 use Rattle.aide_attr.specs.declared.attr.Attr.{Attr}
-use Rattle.aide_entry.specs.Attributes.{Attributes, Value}
+use Rattle.aide_fields.specs.Attributes.{Attributes, Value}
 use Rattle.aide_json.proofs.ItemLemmas.{behind_both}
 use Rattle.aide_json.specs.Object.{behind, line, object}
 use Rattle.aide_json.specs.Value.{member_if_any, print_member, text_member, texts_of, word}

@@ -3,8 +3,8 @@ use Rattle.std.specs.Prelude.{ℕ, Bool, List}
 use Rattle.std.specs.List.{filter, flat_map}
 use Rattle.aide_attr.specs.Attr.{all_attrs, detail_name_of}
 use Rattle.aide_attr.specs.declared.attr.Attr.{Attr}
-use Rattle.aide_entry.specs.Attributes.{Attributes, Value, number_value, mode_value, type_value}
-use Rattle.aide_entry.specs.Attributes.{link_value, digest_value, opaque_value}
+use Rattle.aide_fields.specs.Attributes.{Attributes, Value, number_value, mode_value, type_value}
+use Rattle.aide_fields.specs.Attributes.{link_value, digest_value, opaque_value}
 use Rattle.aide_json.specs.Number.{integer}
 use Rattle.aide_json.specs.Value.{Member, base16, member_if_any, text_member, text_or_null, word}
 use Rattle.aide_text.specs.ValueText.{type_text, octal_text}

@@ -4,7 +4,7 @@ use Rattle.aide_agreement.specs.Account.{Pair}
 use Rattle.aide_agreement.specs.Kind.{kind_word, type_at}
 use Rattle.aide_attr.specs.declared.attr.Attr.{Attr}
 use Rattle.aide_attr.specs.declared.file_type.FileType.{FileType}
-use Rattle.aide_entry.specs.Attributes.{Attributes}
+use Rattle.aide_fields.specs.Attributes.{Attributes}
 use Rattle.aide_json.specs.Number.{count}
 use Rattle.aide_json.specs.Value.{Member, line, member_if_any, members_of, object, text_member}
 use Rattle.aide_json.specs.Value.{word}

@@ -1,7 +1,7 @@
 //! Writes an attribute as a member of an object.
 ghost use Rattle.std.specs.Prelude.{◌≡◌, ◌≤◌, Option, None, Some, length};
 ghost use Rattle.aide_attr.specs.declared.attr.Attr.{Attr as AnyAttr};
-ghost use Rattle.aide_entry.specs.Attributes.{link_in, digest_in, opaque_in};
+ghost use Rattle.aide_fields.specs.Attributes.{link_in, digest_in, opaque_in};
 ghost use Rattle.aide_entry.specs.View.{entry_in};
 ghost use Rattle.aide_json.specs.Number.{integer};
 ghost use Rattle.aide_json.specs.Value.{base16, print_member, text_member, text_or_null, word};

@@ -2,13 +2,13 @@
 use Rattle.std.specs.Prelude.{◌≡◌, ℕ, List, Option, Some, None, [], ◌∷◌}
 use Rattle.std.proofs.Common.{sym, ap, ◌∙◌, rules}
 use Rattle.aide_db.specs.Alike.{HoldsAlike}
-use Rattle.aide_entry.specs.Attributes.{Attributes, Entry}
+use Rattle.aide_fields.specs.Attributes.{Attributes, Entry}
 use Rattle.aide_entry.specs.View.{entry_at}
 use Rattle.aide_db.specs.Desk.{desk_entry}
 use Rattle.aide_db.specs.DeskView.{DeskView}
-use Rattle.aide_entry.specs.Path.{path_cmp}
+use Rattle.aide_fields.specs.Path.{path_cmp}
 use Rattle.aide_db.specs.declared.side.Side.TheVariants.{Old, New}
-use Rattle.aide_entry.proofs.PathLaws.{path_cmp_total}
+use Rattle.aide_fields.proofs.PathLaws.{path_cmp_total}
 use Rattle.aide_merge.specs.Compare.{Change}
 use Rattle.aide_merge.specs.code.ChangeView.{IsAlike}
 use Rattle.aide_merge.specs.code.NextEntry.{next_entry}

@@ -15,7 +15,7 @@ use Rattle.aide_db.specs.declared.side.Side.TheVariants.{Old, New}
 use Rattle.aide_db.specs.declared.stage.Stage.{Stage}
 use Rattle.aide_db.specs.declared.stage.Stage.TheVariants.{Entries, Ended, Failed}
 use Rattle.aide_db.proofs.Giving.{columns_at, lines_after}
-use Rattle.aide_entry.specs.Text.{lines}
+use Rattle.aide_fields.specs.Text.{lines}
 use Rattle.aide_entry.specs.View.{entry_at}
 use Rattle.aide_entry.specs.declared.column.Column.{Column}
 use Rattle.aide_merge.specs.Standing.{IsUnfailed}

@@ -8,7 +8,7 @@ use Rattle.aide_attr.specs.declared.set.AttrSet.{AttrSet}
 use Rattle.aide_attr.specs.Set.{has}
 use Rattle.aide_attr.specs.Difference.{Sides, is_reported, is_shown, any_reported}
 use Rattle.aide_attr.proofs.DifferenceLemmas.{any_from, none_from}
-use Rattle.aide_entry.specs.Attributes.{Attributes, sides_between}
+use Rattle.aide_fields.specs.Attributes.{Attributes, sides_between}
 use Rattle.aide_merge.specs.Changed.{differ_by}
 
 -- what is reported at an attribute is told by three tests there

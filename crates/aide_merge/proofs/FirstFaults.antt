@@ -2,7 +2,7 @@
 use Rattle.std.specs.Prelude.{◌≡◌, ℕ, ◌+◌, ◌⊎◌, true, Some, Result, Ok, Err, List, [], ◌∷◌, ◌++◌, length, nat_le}
 use Rattle.std.proofs.Common.{refl, sym, ap, subst, ◌∙◌, inl, inr, append_assoc, rules}
 use Rattle.aide_db.specs.Database.{IsFront, IsAtLine, IsFirstFault, fault_of, whole_lines}
-use Rattle.aide_entry.specs.Text.{lines}
+use Rattle.aide_fields.specs.Text.{lines}
 use Rattle.aide_db.specs.declared.fault.DbFault.{DbFault}
 use Rattle.aide_entry.specs.declared.fault_kind.DbFaultKind.{DbFaultKind}
 use Rattle.aide_db.specs.declared.limits.Limits.{Limits}

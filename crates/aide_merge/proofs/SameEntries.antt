@@ -8,8 +8,8 @@ use Rattle.aide_agreement.proofs.ListLemmas.{none_of}
 use Rattle.aide_attr.specs.declared.attr.Attr.{Attr}
 use Rattle.aide_attr.specs.declared.delta.Ignore.{Ignore}
 use Rattle.aide_attr.specs.declared.level.Level.{Level}
-use Rattle.aide_entry.specs.Attributes.{Attributes, Entry, sides_between, is_different}
-use Rattle.aide_entry.proofs.ValueLaws.{never_different}
+use Rattle.aide_fields.specs.Attributes.{Attributes, Entry, sides_between, is_different}
+use Rattle.aide_fields.proofs.ValueLaws.{never_different}
 use Rattle.aide_conf.specs.declared.options.Options.{Options}
 use Rattle.aide_text.specs.declared.section.Contents.{Contents}
 use Rattle.aide_text.specs.declared.section.Contents.TheVariants.{Listed, Detailed}

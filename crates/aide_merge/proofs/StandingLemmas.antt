@@ -8,7 +8,7 @@ use Rattle.aide_db.specs.Desk.{list_of, columns_of_side, desk_entry}
 use Rattle.aide_db.specs.DeskView.{DeskView}
 use Rattle.aide_entry.specs.Entry.{entry_of}
 use Rattle.aide_db.specs.Kept.{IsKept}
-use Rattle.aide_entry.specs.Text.{is_filled}
+use Rattle.aide_fields.specs.Text.{is_filled}
 use Rattle.aide_entry.specs.declared.column.Column.{Column}
 use Rattle.aide_db.specs.declared.side.Side.{Side}
 use Rattle.aide_merge.specs.code.NextEntry.{given}

@@ -4,8 +4,8 @@ use Rattle.std.proofs.Common.{refl, sym, ap, ◌∙◌, arith, ◌+◌, ◌<◌}
 use Rattle.std.specs.declared.option.Option.{Option}
 use Rattle.std.specs.declared.cmp.Ordering.{Ordering}
 use Rattle.std.specs.declared.cmp.Ordering.TheVariants.{Less, Equal, Greater}
-use Rattle.aide_entry.specs.Path.{path_cmp}
-use Rattle.aide_entry.specs.Attributes.{Attributes, Entry}
+use Rattle.aide_fields.specs.Path.{path_cmp}
+use Rattle.aide_fields.specs.Attributes.{Attributes, Entry}
 use Rattle.aide_merge.specs.Compare.{Change}
 use Rattle.aide_merge.specs.declared.change.AtPath.{AtPath}
 use Rattle.aide_merge.specs.declared.change.AtPath.TheVariants.{Alike, Differs, End}

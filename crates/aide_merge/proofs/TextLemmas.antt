@@ -3,9 +3,9 @@ use Rattle.std.specs.Prelude.{◌≡◌, ℕ, List}
 use Rattle.std.proofs.Common.{◌∙◌}
 use Rattle.aide_db.specs.Database.{IsSound}
 use Rattle.aide_db.specs.Map.{database_of, entries_of}
-use Rattle.aide_entry.specs.Path.{path_cmp}
+use Rattle.aide_fields.specs.Path.{path_cmp}
 use Rattle.aide_db.specs.declared.limits.Limits.{Limits}
-use Rattle.aide_entry.proofs.PathLaws.{path_cmp_total, path_cmp-IsAntisymmetric}
+use Rattle.aide_fields.proofs.PathLaws.{path_cmp_total, path_cmp-IsAntisymmetric}
 use Rattle.aide_db.proofs.MapLaws.{entries-database_of}
 use Rattle.aide_merge.specs.Compare.{changes}
 use Rattle.aide_merge.specs.Merged.{merged}

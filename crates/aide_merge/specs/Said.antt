@@ -12,7 +12,7 @@ use Rattle.aide_attr.specs.declared.level.Level.{Level}
 use Rattle.aide_attr.specs.declared.level.Level.TheVariants.{AddedRemovedEntries}
 use Rattle.aide_attr.specs.declared.summary_string.Alone.TheVariants.{Added, Removed}
 use Rattle.aide_conf.specs.declared.options.Options.{Options}
-use Rattle.aide_entry.specs.Attributes.{Attributes, sides_between, type_in}
+use Rattle.aide_fields.specs.Attributes.{Attributes, sides_between, type_in}
 use Rattle.aide_merge.specs.Compare.{Change}
 use Rattle.aide_merge.specs.Changed.{differ_by}
 use Rattle.aide_merge.specs.Changes.{is_added, is_removed, is_changed}

@@ -4,7 +4,7 @@ ghost use Rattle.aide_attr.specs.Difference.{is_shown};
 ghost use Rattle.aide_attr.specs.Set.{has};
 ghost use Rattle.aide_attr.specs.Summary.{summary_letters};
 ghost use Rattle.aide_attr.specs.declared.attr.Attr.{Attr};
-ghost use Rattle.aide_entry.specs.Attributes.{sides_between};
+ghost use Rattle.aide_fields.specs.Attributes.{sides_between};
 ghost use Rattle.aide_entry.specs.View.{entry_in};
 ghost use Rattle.aide_merge.specs.code.ChangeView.{change_of};
 ghost use Rattle.aide_merge.specs.Changed.{differ_by};

@@ -1,8 +1,8 @@
 //! Two databases read in lock step: one path after another, in path order.
 ghost use Rattle.std.specs.Prelude.{◌≡◌, ◌∷◌, [], ℕ, IfOk, IfErr, List, OnOk, Option};
-ghost use Rattle.aide_entry.specs.Attributes.{Attributes};
+ghost use Rattle.aide_fields.specs.Attributes.{Attributes};
 ghost use Rattle.aide_entry.specs.Columns.{has_column};
-ghost use Rattle.aide_entry.specs.Path.{path_cmp};
+ghost use Rattle.aide_fields.specs.Path.{path_cmp};
 ghost use Rattle.aide_entry.specs.View.{Shows, entry_in};
 ghost use Rattle.aide_db.specs.Desk.{desk_entry};
 ghost use Rattle.aide_db.specs.Kept.{IsKept};

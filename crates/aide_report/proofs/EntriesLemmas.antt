@@ -6,7 +6,7 @@ use Rattle.std.proofs.lemmas.List.{drop_more, drop_all}
 use Rattle.aide_agreement.specs.Account.{Pair}
 use Rattle.aide_attr.specs.declared.attr.Attr.{Attr}
 use Rattle.aide_conf.specs.declared.options.Options.{Options}
-use Rattle.aide_entry.specs.Attributes.{Entry}
+use Rattle.aide_fields.specs.Attributes.{Entry}
 use Rattle.aide_merge.specs.code.ChangeView.{alike_of}
 use Rattle.aide_merge.specs.Changed.{differ_by}
 use Rattle.aide_merge.specs.Said.{PathChange}

@@ -5,7 +5,7 @@ use Rattle.aide_attr.specs.Attr.{form_of}
 use Rattle.aide_attr.specs.declared.attr.Attr.{Attr}
 use Rattle.aide_attr.specs.declared.attr.Attr.TheVariants.{Ftype, Lname}
 use Rattle.aide_attr.specs.declared.form.Form.TheVariants.{Kind, Link}
-use Rattle.aide_entry.specs.Attributes.{Attributes, type_in, link_in}
+use Rattle.aide_fields.specs.Attributes.{Attributes, type_in, link_in}
 use Rattle.aide_text.specs.ValueText.{option_text, type_text, printed_link, text_at, value_in}
 
 -- the text of an attribute of such a form is that of the attribute that alone has it

@@ -9,10 +9,10 @@ use Rattle.aide_merge.specs.Asked.{asked}
 use Rattle.sha2.specs.Sha256.{sha256}
 use Rattle.aide_db.specs.Database.{IsSound}
 use Rattle.aide_db.specs.Map.{database_of}
-use Rattle.aide_entry.specs.Path.{path_cmp}
+use Rattle.aide_fields.specs.Path.{path_cmp}
 use Rattle.aide_db.specs.declared.fault.DbFault.{DbFault}
 use Rattle.aide_db.specs.declared.limits.Limits.{Limits}
-use Rattle.aide_entry.proofs.PathLaws.{path_cmp_total, path_cmp-IsAntisymmetric}
+use Rattle.aide_fields.proofs.PathLaws.{path_cmp_total, path_cmp-IsAntisymmetric}
 use Rattle.aide_merge.specs.Changed.{differ_by}
 use Rattle.aide_merge.specs.Changes.{is_added, is_removed, is_changed, is_of_new}
 use Rattle.aide_merge.specs.Compare.{changes, added, removed, changed}

@@ -1,7 +1,7 @@
 //! What a pass writes of each change, and the walk over both databases that writes it.
 ghost use Rattle.std.specs.Prelude.{◌≡◌, ℕ, List, [], IfErr, OnOk, false};
 ghost use Rattle.std.specs.List.{flat_map};
-ghost use Rattle.aide_entry.specs.Attributes.{Entry};
+ghost use Rattle.aide_fields.specs.Attributes.{Entry};
 ghost use Rattle.aide_merge.specs.Said.{PathChange};
 ghost use Rattle.aide_merge.specs.code.ChangeView.{alike_of, change_of};
 ghost use Rattle.aide_report.specs.code.PassFaults.{IsStopOf, Writes};

@@ -2,7 +2,7 @@
 ghost use Rattle.std.specs.Prelude.{◌≡◌, true, IfSome, Option, None, Some};
 ghost use Rattle.aide_attr.specs.Set.{has};
 ghost use Rattle.aide_attr.specs.declared.attr.Attr.{Attr as AnyAttr};
-ghost use Rattle.aide_entry.specs.Attributes.{link_in, digest_in, opaque_in};
+ghost use Rattle.aide_fields.specs.Attributes.{link_in, digest_in, opaque_in};
 ghost use Rattle.aide_entry.specs.View.{entry_in};
 ghost use Rattle.aide_merge.specs.code.ChangeView.{change_of};
 ghost use Rattle.aide_report_specs.specs.Entries.{attribute_text, attributes_text, shown_text};

@@ -4,7 +4,7 @@ ghost use Rattle.std.specs.List.{flat_map};
 ghost use Rattle.aide_entry.specs.Count.{one_more};
 ghost use Rattle.aide_db.specs.DeskView.{DeskView};
 ghost use Rattle.aide_db.specs.Map.{entries_of};
-ghost use Rattle.aide_entry.specs.Path.{path_cmp};
+ghost use Rattle.aide_fields.specs.Path.{path_cmp};
 ghost use Rattle.aide_db.specs.Side.{by_side};
 ghost use Rattle.aide_merge.specs.Bound.{Fits, OpensWithin};
 ghost use Rattle.aide_report.specs.code.Counts.{Completes};

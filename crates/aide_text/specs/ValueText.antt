@@ -14,8 +14,8 @@ use Rattle.aide_attr.specs.declared.file_type.FileType.TheVariants.{Socket, Othe
 use Rattle.aide_attr.specs.declared.form.Form.{Form}
 use Rattle.aide_attr.specs.declared.form.Form.TheVariants.{Kind, Mode, Number, Time, Link}
 use Rattle.aide_attr.specs.declared.form.Form.TheVariants.{Digest, Opaque}
-use Rattle.aide_entry.specs.Attributes.{Attributes, Value, type_in, link_in, number_in, digest_in}
-use Rattle.aide_entry.specs.Attributes.{opaque_in}
+use Rattle.aide_fields.specs.Attributes.{Attributes, Value, type_in, link_in, number_in, digest_in}
+use Rattle.aide_fields.specs.Attributes.{opaque_in}
 use Rattle.aide_text.specs.Printed.{printed}
 
 -- how a type of file is written

@@ -4,7 +4,7 @@ ghost use Rattle.std.specs.Prelude.{◌≡◌, ℕ, List};
 ghost use Rattle.percent_encoding.specs.Iter.{decoded_bytes};
 
 use crate::feed::Feed;
-use aide_entry::Decoded;
+use aide_fields::Decoded;
 
 /// Hands out the bytes of a text whose escapes are decoded.
 #[derive(Clone, Copy, Drop)]

@@ -4,9 +4,9 @@ use Rattle.std.specs.Prelude.{unwrap_or, List, [], ◌∷◌, drop, slice_index,
 use Rattle.std.specs.Int.{bit_at}
 use Rattle.aide_entry.specs.code.Codes.{code_of}
 use Rattle.aide_entry.specs.Fields.{field_under, is_column, is_bits}
-use Rattle.aide_entry.specs.Numbers.{bits_of}
-use Rattle.aide_entry.specs.Spans.{first_in}
-use Rattle.aide_entry.specs.Text.{fields}
+use Rattle.aide_fields.specs.Numbers.{bits_of}
+use Rattle.aide_fields.specs.Spans.{first_in}
+use Rattle.aide_fields.specs.Text.{fields}
 use Rattle.aide_entry.specs.declared.column.Column.{Column}
 
 -- the same if one more column comes before it; 0 stays 0

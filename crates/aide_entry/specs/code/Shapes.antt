@@ -5,8 +5,8 @@ use Rattle.aide_attr.specs.Attr.{form_of}
 use Rattle.aide_attr.specs.declared.form.Form.{Form}
 use Rattle.aide_attr.specs.declared.form.Form.TheVariants.{Kind, Mode, Number, Time, Link, Digest}
 use Rattle.aide_attr.specs.declared.form.Form.TheVariants.{Opaque}
-use Rattle.aide_entry.specs.Numbers.{mode_of, number_of, bits_of}
-use Rattle.aide_entry.specs.Values.{time_of, digest_of, is_nought}
+use Rattle.aide_fields.specs.Numbers.{mode_of, number_of, bits_of}
+use Rattle.aide_fields.specs.Values.{time_of, digest_of, is_nought}
 use Rattle.aide_entry.specs.declared.column.Column.{Column}
 use Rattle.aide_entry.specs.declared.column.Column.TheVariants.{Name, Bits, Of, Skipped}
 use Rattle.aide_entry.specs.declared.shape.Shape.{Shape}

@@ -6,7 +6,7 @@ use Rattle.aide_db.specs.DeskView.{DeskView}
 use Rattle.aide_db.specs.declared.reel.Reel.{Ghosts as Reels}
 use Rattle.aide_db.specs.declared.side.Side.{Side}
 use Rattle.aide_db.specs.declared.side.Side.TheVariants.{Old, New}
-use Rattle.aide_entry.specs.Path.{path_cmp}
+use Rattle.aide_fields.specs.Path.{path_cmp}
 use Rattle.aide_line_run.specs.BeforeFault.{EndsAtFault}
 use Rattle.aide_line_run.specs.ChangeLines.{change_lines}
 use Rattle.aide_merge.specs.Said.{PathChange}

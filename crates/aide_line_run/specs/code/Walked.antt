@@ -5,7 +5,7 @@ use Rattle.aide_conf.specs.declared.options.Options.{Options}
 use Rattle.aide_db.specs.DeskView.{DeskView}
 use Rattle.aide_db.specs.declared.reel.Reel.{Ghosts as Reels}
 use Rattle.aide_db.specs.declared.side.Side.TheVariants.{Old, New}
-use Rattle.aide_entry.specs.Path.{path_cmp}
+use Rattle.aide_fields.specs.Path.{path_cmp}
 use Rattle.aide_line_text.specs.declared.counts.LineCounts.{LineCounts}
 use Rattle.aide_line_run.specs.code.LineTally.{sum_of_counts, tally}
 use Rattle.aide_merge.specs.code.MergeCalls.{KeepsMerge}

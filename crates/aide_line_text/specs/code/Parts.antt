@@ -4,7 +4,7 @@ use Rattle.aide_agreement.specs.Account.{Pair}
 use Rattle.aide_agreement.specs.Kind.{kind_word, type_at}
 use Rattle.aide_attr.specs.Attr.{detail_name_of}
 use Rattle.aide_attr.specs.declared.attr.Attr.{Attr}
-use Rattle.aide_entry.specs.Attributes.{Attributes}
+use Rattle.aide_fields.specs.Attributes.{Attributes}
 use Rattle.aide_json.specs.Object.{behind}
 use Rattle.aide_json.specs.Value.{Member, member_if_any, print_member, text_member, texts_of, word}
 use Rattle.aide_line_text.specs.Attribute.{value_member}

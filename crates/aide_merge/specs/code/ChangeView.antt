@@ -3,7 +3,7 @@ use Rattle.std.specs.Prelude.{◌≡◌, ℕ, Some, List, [], ◌∷◌}
 use Rattle.aide_agreement.specs.ChangeView.{found_in}
 use Rattle.aide_agreement.specs.declared.change.Change.{Change}
 use Rattle.aide_agreement.specs.declared.change.Change.TheVariants.{Added, Removed, Common}
-use Rattle.aide_entry.specs.Attributes.{Attributes, Entry}
+use Rattle.aide_fields.specs.Attributes.{Attributes, Entry}
 use Rattle.aide_entry.specs.View.{entry_in}
 use Rattle.aide_merge.specs.Compare.{Change as Sided}
 use Rattle.aide_merge.specs.declared.change.AtPath.{AtPath}

@@ -5,8 +5,8 @@ use Rattle.aide_db.specs.CursorView.{CursorView}
 use Rattle.aide_db.specs.Desk.{desk_entry}
 use Rattle.aide_db.specs.DeskView.{DeskView}
 use Rattle.aide_db.specs.Map.{entries_of}
-use Rattle.aide_entry.specs.Attributes.{Attributes}
-use Rattle.aide_entry.specs.Path.{path_cmp}
+use Rattle.aide_fields.specs.Attributes.{Attributes}
+use Rattle.aide_fields.specs.Path.{path_cmp}
 use Rattle.aide_db.specs.declared.fault.DbFault.{DbFault}
 use Rattle.aide_entry.specs.declared.fault_kind.DbFaultKind.TheVariants.{Read}
 use Rattle.aide_db.specs.declared.limits.Limits.{Limits}

@@ -1,10 +1,10 @@
 -- A merge of two cursors: what it represents, and what it has still to give.
 use Rattle.std.specs.Prelude.{◌≡◌, ◌≢◌, ◌≤◌, ℕ, ◌+◌, Option, List, IsSome}
-use Rattle.aide_entry.specs.Attributes.{Attributes}
+use Rattle.aide_fields.specs.Attributes.{Attributes}
 use Rattle.aide_db.specs.CursorView.{CursorView}
 use Rattle.aide_db.specs.Desk.{desk_entry}
 use Rattle.aide_db.specs.DeskView.{DeskView}
-use Rattle.aide_entry.specs.Path.{path_cmp}
+use Rattle.aide_fields.specs.Path.{path_cmp}
 use Rattle.aide_db.specs.declared.limits.Limits.{Limits}
 use Rattle.aide_db.specs.declared.side.Side.{Side}
 use Rattle.aide_db.specs.declared.side.Side.TheVariants.{Old, New}

@@ -1,6 +1,6 @@
 -- What a side of a merge has still to pass on.
 use Rattle.std.specs.Prelude.{ℕ, ◌+◌, Option, Some, None, List, [], ◌∷◌, ◌++◌}
-use Rattle.aide_entry.specs.Attributes.{Entry}
+use Rattle.aide_fields.specs.Attributes.{Entry}
 use Rattle.aide_merge.specs.declared.merge.NextEntry.{NextEntry}
 use Rattle.aide_merge.specs.declared.merge.NextEntry.TheVariants.{Due, Here, Ended}
 

@@ -2,8 +2,8 @@
 use Rattle.std.specs.Prelude.{ℕ, Option, Some, None, List, [], ◌∷◌}
 use Rattle.std.specs.declared.cmp.Ordering.{Ordering}
 use Rattle.std.specs.declared.cmp.Ordering.TheVariants.{Less, Equal, Greater}
-use Rattle.aide_entry.specs.Attributes.{Attributes, Entry}
-use Rattle.aide_entry.specs.Path.{path_cmp}
+use Rattle.aide_fields.specs.Attributes.{Attributes, Entry}
+use Rattle.aide_fields.specs.Path.{path_cmp}
 use Rattle.aide_merge.specs.Compare.{Change}
 use Rattle.aide_merge.specs.declared.merge.NextEntry.{NextEntry}
 use Rattle.aide_merge.specs.declared.merge.NextEntry.TheVariants.{Due}

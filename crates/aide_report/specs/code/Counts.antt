@@ -1,7 +1,7 @@
 -- Counts of changes.
 use Rattle.std.specs.Prelude.{◌≡◌, ℕ, ◌+◌, ◌<◌, List, count_by}
 use Rattle.aide_conf.specs.declared.options.Options.{Options}
-use Rattle.aide_entry.specs.Attributes.{Attributes}
+use Rattle.aide_fields.specs.Attributes.{Attributes}
 use Rattle.aide_merge.specs.Changed.{differ_by}
 use Rattle.aide_merge.specs.Changes.{is_added, is_removed, is_changed, is_of_new}
 use Rattle.aide_merge.specs.Compare.{Change}

@@ -1,6 +1,6 @@
 use Rattle.std.proofs.Common.{rules}
 use Rattle.std.specs.Prelude.{is_some}
-use Rattle.aide_entry.specs.Attributes.{is_different}
+use Rattle.aide_fields.specs.Attributes.{is_different}
 use Rattle.aide_entry.specs.View.{entry_in}
 use Rattle.aide_entry.proofs.AttrLoops.{begins_filling, filled, steps}
 use Rattle.aide_entry.proofs.delta.contrasts_between.Goals as goal

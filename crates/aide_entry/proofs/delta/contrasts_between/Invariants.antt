@@ -1,6 +1,6 @@
 use Rattle.std.proofs.Common.{length}
 use Rattle.std.specs.Prelude.{is_some}
-use Rattle.aide_entry.specs.Attributes.{is_different}
+use Rattle.aide_fields.specs.Attributes.{is_different}
 use Rattle.aide_entry.specs.View.{entry_in}
 use Rattle.aide_entry.proofs.AttrLoops.{AreFilling}
 use Rattle.aide_entry.proofs.delta.contrasts_between.Given as goal

@@ -1,10 +1,10 @@
 use Rattle.std.proofs.Common.{◌≡◌, refl, length, eq-eqb, false, Some, List, ℕ, rules}
 use Rattle.aide_entry.specs.Entry.{entry_fault, is_path, path_of}
-use Rattle.aide_entry.specs.Text.{fields}
+use Rattle.aide_fields.specs.Text.{fields}
 use Rattle.aide_entry.specs.declared.column.Column.{Column}
 use Rattle.aide_entry.specs.declared.fault_kind.DbFaultKind.TheVariants.{BadName}
 use Rattle.aide_entry.proofs.EntryFaults.{sound_from}
-use Rattle.aide_entry.proofs.SpanLemmas.{spans_count}
+use Rattle.aide_fields.proofs.SpanLemmas.{spans_count}
 use Rattle.aide_entry.proofs.Order.{fault_order, fault_form}
 use Rattle.aide_entry.proofs.entry.entry_fault.Goals as goal
 

@@ -1,7 +1,7 @@
 use Rattle.std.proofs.Common.{◌≡◌, ◌+◌, ◌-◌, ◌≤◌, drop}
 use Rattle.std.specs.List.{zip}
-use Rattle.aide_entry.specs.Spans.{fields_at}
-use Rattle.aide_entry.specs.Values.{IsTimeOrNothing}
+use Rattle.aide_fields.specs.Spans.{fields_at}
+use Rattle.aide_fields.specs.Values.{IsTimeOrNothing}
 use Rattle.aide_entry.specs.code.Shapes.{first_misshapen_from}
 use Rattle.aide_entry.proofs.entry.first_misshapen.Given as goal
 

@@ -1,5 +1,5 @@
 use Rattle.std.proofs.Common.{◌≡◌, ◌++◌, length, map}
-use Rattle.aide_entry.specs.Text.{fields}
+use Rattle.aide_fields.specs.Text.{fields}
 use Rattle.aide_entry.specs.Columns.{columns_in}
 use Rattle.aide_entry.specs.Fields.{column_named, columns_of}
 use Rattle.aide_entry.proofs.spec_line.read_columns.Given as goal

@@ -1,6 +1,6 @@
 use Rattle.std.proofs.Common.{◌∙◌}
 use Rattle.aide_attr.specs.Difference.{sides_of}
-use Rattle.aide_entry.specs.Attributes.{sides_between}
+use Rattle.aide_fields.specs.Attributes.{sides_between}
 use Rattle.aide_entry.specs.View.{entry_in}
 use Rattle.aide_merge.proofs.DifferenceLemmas.{differ_from, same_shown}
 use Rattle.aide_merge.proofs.difference.said_between.Goals as goal

@@ -1,7 +1,7 @@
 use Rattle.std.proofs.Common.{ap, rules}
 use Rattle.aide_attr.specs.Attr.{row, row_of}
 use Rattle.aide_attr.specs.declared.form.Form.TheVariants.{Kind}
-use Rattle.aide_entry.specs.Attributes.{type_in}
+use Rattle.aide_fields.specs.Attributes.{type_in}
 use Rattle.aide_entry.specs.Entry.{value_in}
 use Rattle.aide_entry.proofs.FieldValues.{types_mapped}
 use Rattle.aide_entry.proofs.view.View.kind.Goals as goal

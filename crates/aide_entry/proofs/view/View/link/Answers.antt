@@ -1,7 +1,7 @@
 use Rattle.std.proofs.Common.{ap, ◌∙◌, Some}
 use Rattle.aide_attr.specs.Attr.{row, row_of}
 use Rattle.aide_attr.specs.declared.form.Form.TheVariants.{Link}
-use Rattle.aide_entry.specs.Attributes.{link_in}
+use Rattle.aide_fields.specs.Attributes.{link_in}
 use Rattle.aide_entry.specs.Entry.{value_in}
 use Rattle.aide_entry.proofs.view.View.link.Goals as goal
 

@@ -1,5 +1,0 @@
-use Rattle.std.proofs.lemmas.Nat.Bits.{bit_at_or}
-use Rattle.aide_entry.proofs.blanks.bits_either.Goals as goal
-
-pub returns : goal.returns
-returns c = bit_at_or c.args.a c.args.b

@@ -1,6 +1,0 @@
-use Rattle.std.proofs.lemmas.Simd.{length-chunk, get_or-chunk}
-use Rattle.aide_entry.proofs.blanks.next_lanes.Goals as goal
-
-pub returns : goal.returns
-returns c =
-    record { long = length-chunk c.args.at 32 c.args.line.now c.requires; each = λ k l. get_or-chunk c.args.at 32 c.args.line.now k 0 l }

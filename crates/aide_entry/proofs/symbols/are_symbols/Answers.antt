@@ -1,6 +1,0 @@
-use Rattle.std.proofs.Common.{rules}
-use Rattle.aide_entry.proofs.SymbolLemmas.{symbols_behind}
-use Rattle.aide_entry.proofs.symbols.are_symbols.Goals as goal
-
-pub eights-preserved : goal.eights-preserved
-eights-preserved c = search (rules, symbols_behind)

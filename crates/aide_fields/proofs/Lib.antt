@@ -1,0 +1,16 @@
+pub mod Literals
+pub mod BlankLemmas
+pub mod SpanLemmas
+pub mod PathLemmas
+pub mod CutLemmas
+pub mod FieldLemmas
+pub mod NumberLemmas
+pub mod PathLaws
+pub mod ValueLaws
+pub mod DecodeLemmas
+pub mod SymbolLemmas
+pub mod SplitLemmas
+pub mod DigitWeights
+pub mod TenDigits
+pub mod TimeMarks
+pub mod FieldForms

@@ -1,0 +1,9 @@
+pub mod Text
+pub mod Path
+pub mod Numbers
+pub mod Values
+pub mod Lent
+pub mod Base64Tables
+pub mod Spans
+pub mod Attributes
+pub mod code
