@@ -1,4 +1,4 @@
-//! Whose databases a line on standard error is about.
+//! Which of the two pairs of databases is meant.
 
 /// One of the two pairs of databases that a session may compare.
 #[derive(Clone, Copy)]
