@@ -52,7 +52,8 @@ writes as that user.
 
 Status: 0 written; 15 bad arguments; 18 the state cannot be read, or the result cannot be
 written. Of nagios: 0 OK, all changes are silent; 1 WARNING, some are not; 2 CRITICAL, one of these
-is open and of severity high; 3 UNKNOWN, all else. A LIMIT replaces the rule for 1 or 2: a number of
+is open and of severity high, or the changes could not be judged; 3 UNKNOWN, the last run failed, or
+the state is missing, too old or from the future. A LIMIT replaces the rule for 1 or 2: a number of
 changes that are not silent, or the least severity of one, high, medium or low.""",
 )
 MAX_LINE = 8000
