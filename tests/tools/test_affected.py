@@ -21,9 +21,10 @@ class AffectedTest(unittest.TestCase):
         self.assertEqual(table["tests.commands.units.test_severity"], 0)
         self.assertLess(0, table["tests.commands.test_standings"])
         names = quick.tests_for(["commands/share/severity.conf"], Tally())
-        self.assertEqual(names[0], "tests.commands.units.test_severity")
+        steps = [table.get(name, 1) for name in names]
+        self.assertEqual(steps, sorted(steps), "the nearest first")
+        self.assertIn(".units.", names[0], "those of single functions before the others")
         self.assertGreater(len(names), 30)
-        self.assertLess(names.index("tests.commands.test_state"), names.index(names[-1]))
         module = tests.of("commands/lib/aide_compare/compare/history.py")
         self.assertIn("tests.commands.test_history", module)
 
