@@ -75,6 +75,9 @@ HIDDEN = """
     /var/cache/apt/pkgcache.bin.hSWiF9 /var/cache/apt/srcpkgcache.bin.0aZ9bY /run/sshd
     /run/systemd/propagate/man-db.service /run/ubuntu-advantage/notices /dev/cdrom /dev/dvd /dev/rtc
     /dev/disk/by-uuid/3255683f /dev/shm/x /dev/char/1:3 /var/cache/man/cat8/CACHEDIR.TAG
+    /var/lib/apt/lists/archive.ubuntu.com_ubuntu_dists_noble-updates_InRelease
+    /var/lib/apt/lists/deb.nodesource.com_node_dists_nodistro_main_binary-amd64_Packages
+    /var/lib/apt/lists/pkg.example.org_debian_binary_Packages.gz
 """
 # Accounts, keys, programs, settings of aide-compare, what apt runs as root or a program loads from
 # /var/cache, what is in homes there, and what something below /run obeys.
@@ -100,7 +103,9 @@ SEEN = """
     /var/log/apt/.x/y /dev/shm/.x /run/.x.pid /run/user/0/gnupg/.x /root/.bashrc /root/.profile
     /root/.vimrc /root/.lesskey /home/anna/.ssh/rc /home/anna/x/.bash_history
     /home/anna/.bash_logout /run/sshd/x /run/systemd/propagate/x/y /dev/fd /dev/stdin /dev/log
-    /dev/core /dev/x /dev /var/cache/man/CACHEDIR.TAG
+    /dev/core /dev/x /dev /var/cache/man/CACHEDIR.TAG /var/lib/apt/lists/lock
+    /var/lib/apt/lists /var/lib/apt/lists/partial /var/lib/apt/lists/partial/x_InRelease
+    /var/lib/apt/lists/.x_InRelease /var/lib/apt/extended_states
 """
 # The same of a list for a collector.
 KEPT_OF_HOSTS = """
