@@ -193,7 +193,7 @@ MAIL_TIME = Option(
     kind=some_time,
     default=60,
 )
-ATTACH_PAGE = Option("--attach-page", "attach the page with all values to the text")
+ATTACH_PAGE = Option("--attach-page", "attach the page to the text")
 WEEKLY = Option(
     "--weekly",
     "with --state: send a heartbeat on a day of the week, such as Mon",
