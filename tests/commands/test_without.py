@@ -78,6 +78,11 @@ HIDDEN = """
     /var/lib/apt/lists/archive.ubuntu.com_ubuntu_dists_noble-updates_InRelease
     /var/lib/apt/lists/deb.nodesource.com_node_dists_nodistro_main_binary-amd64_Packages
     /var/lib/apt/lists/pkg.example.org_debian_binary_Packages.gz
+    /var/lib/command-not-found/commands.db /var/lib/command-not-found/commands.db.metadata
+    /var/cache/swcatalog/cache/C-os-catalog.xb /run/ubuntu-advantage/apt-news
+    /run/cloud-init/ds-identify.log /run/user/1000/snapd-session-agent.socket
+    /run/user/0/systemd/propagate/.os-release-stage
+    /run/user/0/systemd/propagate/.os-release-stage/os-release
 """
 # Accounts, keys, programs, settings of aide-compare, what apt runs as root or a program loads from
 # /var/cache, what is in homes there, and what something below /run obeys.
@@ -105,7 +110,11 @@ SEEN = """
     /home/anna/.bash_logout /run/sshd/x /run/systemd/propagate/x/y /dev/fd /dev/stdin /dev/log
     /dev/core /dev/x /dev /var/cache/man/CACHEDIR.TAG /var/lib/apt/lists/lock
     /var/lib/apt/lists /var/lib/apt/lists/partial /var/lib/apt/lists/partial/x_InRelease
-    /var/lib/apt/lists/.x_InRelease /var/lib/apt/extended_states
+    /var/lib/apt/lists/.x_InRelease /var/lib/apt/extended_states /run/cloud-init/x
+    /var/lib/command-not-found /var/lib/command-not-found/x /var/cache/swcatalog/cache/x.xb
+    /var/lib/update-notifier/updates-available /var/lib/landscape/landscape-sysinfo.cache
+    /var/lib/ubuntu-advantage/apt-esm/etc/apt/apt.conf.d/x /run/ubuntu-advantage/apt-news/x
+    /run/user/1000/systemd/generator.late/x.service /run/user/0/systemd/propagate/.x
 """
 # The same of a list for a collector.
 KEPT_OF_HOSTS = """
