@@ -75,9 +75,6 @@ HIDDEN = """
     /var/cache/apt/pkgcache.bin.hSWiF9 /var/cache/apt/srcpkgcache.bin.0aZ9bY /run/sshd
     /run/systemd/propagate/man-db.service /run/ubuntu-advantage/notices /dev/cdrom /dev/dvd /dev/rtc
     /dev/disk/by-uuid/3255683f /dev/shm/x /dev/char/1:3 /var/cache/man/cat8/CACHEDIR.TAG
-    /var/lib/apt/lists/archive.ubuntu.com_ubuntu_dists_noble-updates_InRelease
-    /var/lib/apt/lists/deb.nodesource.com_node_dists_nodistro_main_binary-amd64_Packages
-    /var/lib/apt/lists/pkg.example.org_debian_binary_Packages.gz
     /var/lib/command-not-found/commands.db /var/lib/command-not-found/commands.db.metadata
     /var/cache/swcatalog/cache/C-os-catalog.xb /run/ubuntu-advantage/apt-news
     /run/cloud-init/ds-identify.log /run/user/1000/snapd-session-agent.socket
@@ -110,7 +107,8 @@ SEEN = """
     /home/anna/.bash_logout /run/sshd/x /run/systemd/propagate/x/y /dev/fd /dev/stdin /dev/log
     /dev/core /dev/x /dev /var/cache/man/CACHEDIR.TAG /var/lib/apt/lists/lock
     /var/lib/apt/lists /var/lib/apt/lists/partial /var/lib/apt/lists/partial/x_InRelease
-    /var/lib/apt/lists/.x_InRelease /var/lib/apt/extended_states /run/cloud-init/x
+    /var/lib/apt/lists/deb.debian.org_debian_dists_sid_InRelease /var/lib/apt/extended_states
+    /var/lib/dpkg/info/x.list /run/cloud-init/x
     /var/lib/command-not-found /var/lib/command-not-found/x /var/cache/swcatalog/cache/x.xb
     /var/lib/update-notifier/updates-available /var/lib/landscape/landscape-sysinfo.cache
     /var/lib/ubuntu-advantage/apt-esm/etc/apt/apt.conf.d/x /run/ubuntu-advantage/apt-news/x

@@ -12,7 +12,7 @@ import time
 
 from tests.lib.answer import Answer
 from tests.lib.program_test import slow
-from tests.lib.scratch import Scratch
+from tests.lib.scratch import Scratch, read
 from tests.pages.machine import BASELINE, NEWEST, NOBODY, STATE, STORE, example
 from tests.pages.recipes import INTRUDER, NIGHT, STORED, Day, RecipesTest, begin, no_comparison
 
@@ -153,6 +153,16 @@ class QuietTest(RecipesTest):
         for kind, path in paths:
             self.assertTrue([one for one, rule in rules if one == kind and rule.match(path)], path)
         self.assertFalse([rule for _, rule in rules if rule.match(daily + "/other")])
+
+    def test_indexes(self) -> None:
+        """AIDE's rules leave out the content of apt's indexes, and neither their names nor new ones."""
+        lines = read("contrib/aide/31_aide_aide-compare").splitlines()
+        pattern, *kinds = next(line.split() for line in lines if line.startswith("/var/lib/apt"))
+        self.assertEqual(kinds, ["f", "VarFile"])
+        rule = re.compile(pattern.replace("\\\\", "\\"))
+        for name in ("security.ubuntu.com_ubuntu_dists_noble-security_InRelease", "x_Packages.lz4"):
+            self.assertTrue(rule.match(f"/var/lib/apt/lists/{name}"), name)
+            self.assertFalse(rule.match(f"/var/lib/apt/lists/partial/{name}"), name)
 
     def test_one_mail(self) -> None:
         """What Debian's own job reads after the recipe."""
