@@ -200,6 +200,7 @@ class PackagesTest(InstallTest):
     def test_rpm(self) -> None:
         self.needs("make", "rpmbuild")
         words = ["-bb", "--build-in-place", "--define", f"_topdir {self.path('rpmbuild')}"]
+        words += ["--define", f"_dbpath {self.path('rpmdb')}"]  # Debian's rpm makes one at home.
         self.build("of-rpm", "rpmbuild", *words, "packaging/rpm/aide-compare.spec")
         name = f"aide-compare-{self.version}-1.x86_64.rpm"
         rpm.try_life(self, self.path("rpmbuild/RPMS/x86_64", name))
