@@ -125,10 +125,12 @@ class HostsTest(RecipesTest):
         self.assertIn(command, self.above(self.example("fleet/playbook.yaml")))
 
     def test_playbook(self) -> None:
-        """If a watched host fails, no play writes the collecting host's files, which name it."""
+        """If a watched host fails, no play writes the collecting host's files, which name it. AIDE has
+        its rules before the first database."""
         plays = self.above(self.example("fleet/playbook.yaml")).split("\n- name: ")
         (watched,) = [play for play in plays if "\n  hosts: watched\n" in play]
         self.assertIn("\n  any_errors_fatal: true\n", watched)
+        self.assertRegex(watched, r"(?s)/31_aide_aide-compare\n.*\n        cmd: aideinit ")
         self.assertEqual(plays[-1].count("        force: false\n"), 2, "edited files stay")
 
     def test_jobs(self) -> None:
