@@ -84,7 +84,7 @@ class StatusRequest(Request):
     """What the options ask for."""
 
     is_quiet: bool = field(
-        QUIET, help="of text: print nothing if a recent comparison found nothing to read"
+        QUIET, help="of text: print nothing if a recent comparison found only silent changes"
     )
     format: str = option("--format", "the form (text)", choices=FORMATS, default="text")
     state: str = field(
