@@ -31,6 +31,8 @@ WATCHERS = (
     b"/etc/systemd/system/aide-compare.service.d/signed.conf",
     b"/etc/systemd/system/timers.target.wants/aide-compare.timer",
     *(b"/run/systemd/system/aide-.service.d/x.conf", b"/run/systemd/transient/service.d/x.conf"),
+    # A link there would lead to other files.
+    *(b"/etc/systemd/system/service.d", b"/run/systemd/system/timer.d"),
     *(b"/usr/lib/systemd/system/aide-compare.timer", b"/usr/lib/systemd/system/timer.d/x.conf"),
     b"/usr/local/lib/systemd/system/aide-compare.service",
     *(b"/usr/lib/systemd/system/dailyaidecheck.service", b"/usr/share/aide-compare/severity.conf"),
@@ -39,6 +41,7 @@ WATCHERS = (
 )
 NO_WATCHERS = (
     *(b"/etc/aide-comparer", b"/etc/aider/x", b"/etc/systemd/system/ssh.service.d/x.conf"),
+    *(b"/etc/systemd/system/ssh.service.d", b"/etc/systemd/system/service.dx"),
     *(b"/srv/aide.conf", b"/usr/lib/systemd/system/raide-compare.service", b"/etc/cron.daily/aide"),
 )
 TOLD = b"aide-compare: 3 open (3 high) of 7 changes\n"

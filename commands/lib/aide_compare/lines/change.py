@@ -55,7 +55,7 @@ WATCHERS = (
     rb"|/etc/cron\.(?:daily/zz-aide-compare|d/aide-compare-fleet)"
     rb"|/usr/(?:.*/)?share/aide-compare/.*"
     rb"|/(?:etc|run|lib|usr/lib|usr/local/lib)/systemd/(?:.*/)?"
-    rb"(?:aide-|dailyaidecheck\.|service\.d/|timer\.d/).*"
+    rb"(?:(?:aide-|dailyaidecheck\.).*|(?:service|timer)\.d(?:/.*)?)"
 )
 
 
